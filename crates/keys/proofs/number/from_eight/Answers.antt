@@ -1,0 +1,10 @@
+use borrow.Author.Needs.{needs}
+use native.Mathlib.Omega.{arith}
+use Rattle.keys.proofs.Bytes.{numberAt, numberOf-read}
+use Rattle.keys.proofs.number.from_eight.Needs as need
+
+pub returns : need.returns
+unfolding numberAt
+returns c =
+    let e = numberOf-read 8 (c .from-be-bytes .result) (c .args .bytes .now) (omega arith) (omega (arith, c .from-be-bytes .ensures)) in
+    search needs
