@@ -1,0 +1,4 @@
+pub mod Places
+pub mod Unordered
+pub mod Accepted
+pub mod Splices
