@@ -1,0 +1,17 @@
+mod Items
+mod Replays
+mod Leaves
+mod Separators
+mod Standing
+mod Allowed
+mod Shapes
+mod Keeping
+mod Counting
+mod Settling
+mod Placing
+mod Running
+mod Starting
+mod Shown
+mod Timing
+mod Opening
+mod Greatest
