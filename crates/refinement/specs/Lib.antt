@@ -1,0 +1,4 @@
+pub mod Resolved
+pub mod Relation
+pub mod Following
+pub mod Beginning
