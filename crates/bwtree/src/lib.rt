@@ -1,5 +1,7 @@
 //! The steps of the index: each rule over lent memory, generic in the key.
 
+#![tactic(auto)]
+
 pub mod answer;
 pub mod build;
 pub mod call;

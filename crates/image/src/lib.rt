@@ -1,5 +1,7 @@
 //! Images of an index: the bytes that hold its entries, how they are checked and read, and how they are written.
 
+#![tactic(auto)]
+
 pub mod entry;
 pub mod reader;
 pub mod refusal;

@@ -1,5 +1,7 @@
 //! Prints what images hold, or why a file is no image.
 
+#![tactic(auto)]
+
 mod kind;
 mod lines;
 mod refused;

@@ -1,6 +1,6 @@
 -- numbers in bytes, and bytes in two parts
 use Rattle.std.specs.Prelude.{◌≡◌, ℕ, zero, suc, ◌+◌, ◌*◌, ◌/◌, ◌%◌, ◌^◌, ◌<◌, ◌≤◌, cond, List, [], ◌∷◌, ◌++◌, length, take, drop, Some, None, ◌==◌, slice_index, refl}
-use Rattle.std.proofs.Common.{sym, ap, ◌∙◌, append-nil, arith, div-add-mod', mod-lt, mul_comm, pow-suc, rules, length-append, length-drop, length-take, take-append-drop}
+use Rattle.std.proofs.Common.{sym, ap, ◌∙◌, append-nil, arith, div-add-mod', mod-lt, mul_comm, pow-suc, length-drop, length-take, take-append-drop}
 use Rattle.std.proofs.Math.Nat.{one-le-pow}
 use borrow.Rule.Slice.PartMut.{put_mid, post_of}
 use Rattle.std.proofs.Math.Arith.{digits_lt, digits_div, digits_mod}

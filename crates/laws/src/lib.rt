@@ -1,5 +1,7 @@
 //! The index without memory behaves as a plain map.
 
+#![tactic(auto)]
+
 ghost use Rattle.laws.specs.Theorem.{MapStands};
 ghost use Rattle.laws.specs.Trees.{TreeStands};
 

@@ -1,5 +1,7 @@
 //! The nodes of the tree: delta records on chains over frames of items, and what a chain means.
 
+#![tactic(auto)]
+
 pub mod access;
 pub mod build;
 pub mod chain;

@@ -1,6 +1,8 @@
 //! Tests of the parts of the index, each on a few arrays made by hand. They stand in a crate of their own because a
 //! crate with tests is proved twice.
 
+#![tactic(auto)]
+
 #[cfg(test)]
 mod builds;
 #[cfg(test)]

@@ -1,5 +1,7 @@
 //! An index over lent memory behaves as a plain map: its memory follows the index without memory.
 
+#![tactic(auto)]
+
 ghost use Rattle.refinement.specs.Beginning.{NewIndexFollows};
 ghost use Rattle.refinement.specs.Following.{BeginFollows, LeafStepsFollow, PostStepsFollow};
 ghost use Rattle.refinement.specs.Stands.{IndexStands};

@@ -5,5 +5,5 @@ use Rattle.keys.proofs.number.from_eight.Goals as goal
 pub returns : goal.returns
 unfolding number_at
 returns c =
-    let e = number_of_read 8 c.from-be-bytes.result c.args.bytes.now (omega arith) (omega (arith, c.from-be-bytes.ensures)) in
+    let e = number_of_read 8 c.from_be_bytes.result c.args.bytes.now (omega arith) (omega (arith, c.from_be_bytes.ensures)) in
     search rules

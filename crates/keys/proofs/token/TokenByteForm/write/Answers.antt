@@ -1,16 +1,16 @@
-use Rattle.std.proofs.Common.{◌≡◌, ◌++◌, length, sym, ap, ◌∙◌, arith, rules}
+use Rattle.std.proofs.Common.{◌≡◌, ◌++◌, length, ap, ◌∙◌, arith, rules}
 use Rattle.keys.specs.Bytes.{big_endian}
 use Rattle.keys.specs.BytesLemmas.{length-big_endian, parts_written}
 use Rattle.keys.proofs.token.TokenByteForm.write.Goals as goal
 
 pub returns : goal.returns
 returns c =
-    let first : c.copy-from-slice.new.self ≡ big_endian 8 c.args.self.now.first = cc in
-    let second : c.copy-from-slice-2.new.self ≡ big_endian 8 c.args.self.now.second = cc in
-    let l₁ : length c.copy-from-slice.new.self ≡ 8 = ap length first ∙ length-big_endian 8 c.args.self.now.first in
-    let l₂ : length c.copy-from-slice-2.new.self ≡ 8 = ap length second ∙ length-big_endian 8 c.args.self.now.second in
+    let first : c.copy_from_slice.new.self ≡ big_endian 8 c.args.self.now.first = cc in
+    let second : c.copy_from_slice-2.new.self ≡ big_endian 8 c.args.self.now.second = cc in
+    let l₁ : length c.copy_from_slice.new.self ≡ 8 = ap length first ∙ length-big_endian 8 c.args.self.now.first in
+    let l₂ : length c.copy_from_slice-2.new.self ≡ 8 = ap length second ∙ length-big_endian 8 c.args.self.now.second in
     record {
       test = search rules;
-      after = parts_written 8 8 c.copy-from-slice.new.self c.copy-from-slice-2.new.self c.args.into.now l₁ l₂ (omega arith)
-          ∙ ap (λ s. s ++ c.copy-from-slice-2.new.self) first ∙ ap (λ s. big_endian 8 c.args.self.now.first ++ s) second;
+      after = parts_written 8 8 c.copy_from_slice.new.self c.copy_from_slice-2.new.self c.args.into.now l₁ l₂ (omega arith)
+          ∙ ap (λ s. s ++ c.copy_from_slice-2.new.self) first ∙ ap (λ s. big_endian 8 c.args.self.now.first ++ s) second;
     }
