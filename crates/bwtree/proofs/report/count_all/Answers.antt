@@ -7,7 +7,7 @@ use Rattle.bwtree.proofs.report.count_all.Goals as goal
 pub loop-x-preserved : goal.loop-x-preserved
 loop-x-preserved g c =
     let more = total_more g.T.Counts.count c.args.xs.now c.loop-x.x-index c.x-item.result (omega arith) c.x-item.is in
-    (omega (arith, more, c.loop-x.invariant.0, c.count.ensures, c.saturating-add-sum.ensures), omega arith)
+    (omega (arith, more, c.loop-x.invariant.0, c.count.ensures, c.saturating_add-sum.ensures), omega arith)
 
 pub returns : goal.returns
 returns g c =

@@ -8,8 +8,8 @@ use Rattle.bwtree.proofs.report.count_chained.Goals as goal
 pub loop-slot-preserved : goal.loop-slot-preserved
 loop-slot-preserved g c =
     let more = chained_more c.args.slots.now (depth_of c.args.records.now c.args.frames.now) c.loop-slot.slot (omega arith) in
-    let head = ap (depth_of c.args.records.now c.args.frames.now) c.head-in.ensures in
-    (omega (arith, more, head, c.loop-slot.invariant.0, c.depth-of.ensures, c.saturating-add-sum.ensures), omega arith)
+    let head = ap (depth_of c.args.records.now c.args.frames.now) c.head_in.ensures in
+    (omega (arith, more, head, c.loop-slot.invariant.0, c.depth_of.ensures, c.saturating_add-sum.ensures), omega arith)
 
 pub returns : goal.returns
 returns g c =

@@ -4,4 +4,4 @@ use Rattle.image.proofs.writer.put.Goals as goal
 
 pub returns : goal.returns
 returns c =
-    put_mid_splice c.args.at _ c.args.buffer.now c.copy-from-slice.new.self c.args.bytes.now c.copy-from-slice.ensures.after refl
+    put_mid_splice c.args.at _ c.args.buffer.now c.copy_from_slice.new.self c.args.bytes.now c.copy_from_slice.ensures.after refl

@@ -6,4 +6,4 @@ pub returns : goal.returns
 returns g c =
     let written : c.write.new.into ≡ g.K.ByteForm.form c.args.key.now = search rules in
     put_mid_splice c.args.at _ c.args.buffer.now c.write.new.into (g.K.ByteForm.form c.args.key.now) written
-    (c.width-in-bytes-width.ensures ∙ sym (g.met.K.ByteForm.wide c.args.key.now))
+    (c.width_in_bytes-width.ensures ∙ sym (g.met.K.ByteForm.wide c.args.key.now))

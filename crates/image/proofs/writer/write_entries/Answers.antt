@@ -7,14 +7,14 @@ use Rattle.image.proofs.writer.write_entries.Goals as goal
 
 pub loop-place-preserved : goal.loop-place-preserved
 loop-place-preserved g c =
-    let yes-place : c.write-entry.result ≡ true =
-    c.write-entry.ensures.answer
+    let yes-place : c.write_entry.result ≡ true =
+    c.write_entry.ensures.answer
     ∙ has_place_lem g.K.ByteForm.width (length c.args.entries.now) c.loop-place.place c.loop-place.buffer c.requires.few c.loop-place-test.true (omega arith) in
-    let written : c.write-entry.new.buffer
+    let written : c.write_entry.new.buffer
     ≡ with_entry g.K.ByteForm.width g.K.ByteForm.form (length c.args.entries.now) c.loop-place.place c.index-entries-place.result c.loop-place.buffer =
-    c.write-entry.ensures.bytes ∙ cond-true _ _ _ yes-place in
+    c.write_entry.ensures.bytes ∙ cond-true _ _ _ yes-place in
     entries_next g.K.ByteForm.width g.K.ByteForm.form (length c.args.entries.now) c.args.entries.now c.loop-place.place c.index-entries-place.result c.loop-place.buffer
-    c.write-entry.new.buffer c.loop-place-test.true c.index-entries-place.is written
+    c.write_entry.new.buffer c.loop-place-test.true c.index-entries-place.is written
     ∙ c.loop-place.invariant
 
 pub returns : goal.returns

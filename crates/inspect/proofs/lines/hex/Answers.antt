@@ -8,7 +8,7 @@ use Rattle.inspect.proofs.lines.hex.Goals as goal
 pub loop-byte-preserved : goal.loop-byte-preserved
 loop-byte-preserved c =
     let more = hex_of-more c.args.bytes.now c.loop-byte.byte-index (omega arith) in
-    let pushed = IfOk-at_ok _ c.in-ok-push-hex.was c.push-hex.ensures in
+    let pushed = IfOk-at_ok _ c.in_ok-push_hex.was c.push_hex.ensures in
     pushed ∙ ap (λ s. s ++ hex_of (get_or c.args.bytes.now c.loop-byte.byte-index 0 ∷ [])) c.loop-byte.invariant ∙ more
 
 pub returns : goal.returns

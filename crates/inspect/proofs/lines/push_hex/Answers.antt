@@ -7,8 +7,8 @@ use Rattle.inspect.proofs.lines.push_hex.Goals as goal
 pub returns : goal.returns
 returns c =
     pushed_twice (string_bytes c.args.text.now) (string_bytes c.push.new.self) (string_bytes c.push-2.new.self)
-    (encode c.hex-digit.result) (encode c.hex-digit-2.result) (hex_digit (c.args.byte / 16)) (hex_digit (c.args.byte % 16))
-    c.in-ok-push.ensures.bytes
-    (c.push.ensures.ascii c.hex-digit.ensures.ascii ∙ ap (λ d. d ∷ []) c.hex-digit.ensures.value)
-    c.in-ok-push-2.ensures.bytes
-    (c.push-2.ensures.ascii c.hex-digit-2.ensures.ascii ∙ ap (λ d. d ∷ []) c.hex-digit-2.ensures.value)
+    (encode c.hex_digit.result) (encode c.hex_digit-2.result) (hex_digit (c.args.byte / 16)) (hex_digit (c.args.byte % 16))
+    c.in_ok-push.ensures.bytes
+    (c.push.ensures.ascii c.hex_digit.ensures.ascii ∙ ap (λ d. d ∷ []) c.hex_digit.ensures.value)
+    c.in_ok-push-2.ensures.bytes
+    (c.push-2.ensures.ascii c.hex_digit-2.ensures.ascii ∙ ap (λ d. d ∷ []) c.hex_digit-2.ensures.value)

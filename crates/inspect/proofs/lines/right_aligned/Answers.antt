@@ -6,10 +6,10 @@ use Rattle.inspect.proofs.lines.right_aligned.Goals as goal
 pub loop-preserved : goal.loop-preserved
 unfolding encode
 loop-preserved c =
-    c.in-ok-push.ensures.bytes ∙ ap (λ s. s ++ (32 ∷ [])) c.loop.invariant ∙ sym (spaces_more c.loop.counter)
+    c.in_ok-push.ensures.bytes ∙ ap (λ s. s ++ (32 ∷ [])) c.loop.invariant ∙ sym (spaces_more c.loop.counter)
 
 pub returns : goal.returns
 returns c =
     let all : c.loop.counter ≡ c.args.width - length c.args.text.now = omega arith in
-    c.in-ok-push-str.ensures.bytes ∙ ap (λ s. s ++ c.args.text.now) c.loop.invariant
+    c.in_ok-push_str.ensures.bytes ∙ ap (λ s. s ++ c.args.text.now) c.loop.invariant
     ∙ ap (λ n. replicate {A = ℕ} n 32 ++ c.args.text.now) all

@@ -13,7 +13,7 @@ pub returns-in-Width : goal.returns-in-Width
 returns-in-Width c = made_equal string_bytes c.format-in-Width.result (ap (meaning_of c.args.width) (sym c.in-Width.is)) c.format-in-Width.ensures.ok
 
 pub returns-in-Count : goal.returns-in-Count
-returns-in-Count c = made_equal string_bytes c.from-str.result (ap (meaning_of c.args.width) (sym c.in-Count.is)) c.from-str.ensures.ok
+returns-in-Count c = made_equal string_bytes c.from_str.result (ap (meaning_of c.args.width) (sym c.in-Count.is)) c.from_str.ensures.ok
 
 pub returns-in-Order : goal.returns-in-Order
 returns-in-Order c = made_equal string_bytes c.format-in-Order.result (ap (meaning_of c.args.width) (sym c.in-Order.is)) c.format-in-Order.ensures.ok

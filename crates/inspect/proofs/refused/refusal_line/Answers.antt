@@ -6,6 +6,6 @@ use Rattle.inspect.proofs.refused.refusal_line.Goals as goal
 pub returns : goal.returns
 returns c =
     made_equal string_bytes c.format.result
-    (ap (λ number. refusal_text c.args.name.now c.args.bytes number (string_bytes c.in-ok-meaning.meaning)) c.number-number.ensures
-    ∙ ap (refusal_text c.args.name.now c.args.bytes _) c.in-ok-meaning.ensures)
+    (ap (λ number. refusal_text c.args.name.now c.args.bytes number (string_bytes c.in_ok-meaning.meaning)) c.number-number.ensures
+    ∙ ap (refusal_text c.args.name.now c.args.bytes _) c.in_ok-meaning.ensures)
     c.format.ensures.ok

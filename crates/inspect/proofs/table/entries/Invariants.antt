@@ -6,9 +6,9 @@ abbrev pub invariant-loop-entry : goal.invariant-loop-entry
 invariant-loop-entry g l =
     vec_items l.entries
     ≡ take (vec_len l.entries)
-    (cond (eqb l.reader.width g.K.ByteForm.width) (entries_in g.K.ByteForm.keyOf l.reader.width l.reader.count l.reader.image.now) [])
+    (cond (eqb l.reader.width g.K.ByteForm.width) (entries_in g.K.ByteForm.key_of l.reader.width l.reader.count l.reader.image.now) [])
 
 abbrev pub decreases-loop-entry : goal.decreases-loop-entry
 decreases-loop-entry g l =
-    length (cond (eqb l.reader.width g.K.ByteForm.width) (entries_in g.K.ByteForm.keyOf l.reader.width l.reader.count l.reader.image.now) [])
+    length (cond (eqb l.reader.width g.K.ByteForm.width) (entries_in g.K.ByteForm.key_of l.reader.width l.reader.count l.reader.image.now) [])
     - vec_len l.entries

@@ -8,11 +8,11 @@ pub loop-entry-preserved : goal.loop-entry-preserved
 loop-entry-preserved g c =
     let item = drop_item c.args.entries.now c.loop-entry.entry-index c.entry-item.result (omega arith) c.entry-item.is in
     let rest = drop (c.loop-entry.entry-index + 1) c.args.entries.now in
-    ap (λ w. widest_after g.K.Shown.shownAs w rest)
-    (c.larger-width.ensures ∙ ap (λ s. larger_of c.loop-entry.width (length s)) (c.as-str.ensures.value ∙ c.in-ok-key.ensures))
-    ∙ ap (widest_after g.K.Shown.shownAs c.loop-entry.width) (sym item) ∙ c.loop-entry.invariant
+    ap (λ w. widest_after g.K.Shown.shown_as w rest)
+    (c.larger-width.ensures ∙ ap (λ s. larger_of c.loop-entry.width (length s)) (c.as_str.ensures.value ∙ c.in_ok-key.ensures))
+    ∙ ap (widest_after g.K.Shown.shown_as c.loop-entry.width) (sym item) ∙ c.loop-entry.invariant
 
 pub returns : goal.returns
 returns g c =
-    ap (widest_after g.K.Shown.shownAs c.loop-entry.width) (sym (drop_all c.loop-entry.entry-index c.args.entries.now c.loop-entry-test.false))
+    ap (widest_after g.K.Shown.shown_as c.loop-entry.width) (sym (drop_all c.loop-entry.entry-index c.args.entries.now c.loop-entry-test.false))
     ∙ c.loop-entry.invariant

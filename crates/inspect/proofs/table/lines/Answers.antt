@@ -5,20 +5,20 @@ use Rattle.inspect.specs.Table.{lines_from}
 use Rattle.inspect.proofs.Entries.{drop_item, text_more}
 use Rattle.inspect.proofs.table.lines.Goals as goal
 
-pub returns-in-err-push-str : goal.returns-in-err-push-str
-returns-in-err-push-str g c =
-    let p = err_from_is_err_and c.from-residual-in-err-push-str.result c.from-residual-in-err-push-str.ensures.1 in rw p.1 tt
+pub returns-in_err-push_str : goal.returns-in_err-push_str
+returns-in_err-push_str g c =
+    let p = err_from_is_err_and c.from-residual-in_err-push_str.result c.from-residual-in_err-push_str.ensures.1 in rw p.1 tt
 
 pub loop-place-preserved : goal.loop-place-preserved
 loop-place-preserved g c =
     let item = drop_item c.args.entries.now c.loop-place.place c.index-entries-place.result (omega arith) c.index-entries-place.is in
     text_more _ _ _ _ _ _ c.loop-place.invariant
-    (ap (lines_from g.K.Shown.shownAs c.args.columns.place c.args.columns.key c.loop-place.place) item)
-    (c.in-ok-push-str.ensures.bytes ∙ ap (λ s. string_bytes c.loop-place.text ++ s) (c.as-str.ensures.value ∙ c.in-ok-line.ensures))
+    (ap (lines_from g.K.Shown.shown_as c.args.columns.place c.args.columns.key c.loop-place.place) item)
+    (c.in_ok-push_str.ensures.bytes ∙ ap (λ s. string_bytes c.loop-place.text ++ s) (c.as_str.ensures.value ∙ c.in_ok-line.ensures))
 
 pub returns : goal.returns
 returns g c =
     sym (append-nil (string_bytes c.loop-place.text))
-    ∙ ap (λ s. string_bytes c.loop-place.text ++ lines_from g.K.Shown.shownAs c.args.columns.place c.args.columns.key c.loop-place.place s)
+    ∙ ap (λ s. string_bytes c.loop-place.text ++ lines_from g.K.Shown.shown_as c.args.columns.place c.args.columns.key c.loop-place.place s)
     (sym (drop_all c.loop-place.place c.args.entries.now c.loop-place-test.false))
     ∙ c.loop-place.invariant

@@ -14,7 +14,7 @@ returns-then-place-keys g c = record {
   place = λ s. rank_is g.K.Ordered.before (lawful g) c.args.k.now c.args.keys.now c.parting-place.result s c.parting-place.ensures;
   found = λ s. found_here g.K.Ordered.before (lawful g) c.args.k.now c.args.keys.now c.parting-place.result _ _
       (rank_is g.K.Ordered.before (lawful g) c.args.k.now c.args.keys.now c.parting-place.result s c.parting-place.ensures)
-      c.if-place-keys.true c.index-keys-place.is c.stands-before.ensures;
+      c.if-place-keys.true c.index-keys-place.is c.stands_before.ensures;
 }
 
 pub returns-else-place-keys : goal.returns-else-place-keys

@@ -17,9 +17,9 @@ returns g c =
     let size : suc (c.args.size - 1) ≡ c.args.size = omega (arith, c.if-size-eq0.false) in
     let within : c.in-Some.from < length c.args.values.now = omega (arith, c.in-Some.ensures.room.2) in
     subst (λ (n : ℕ). Kept (separators_in_frame g.K.Ordered.before c.args.k.now c.args.keys.now c.args.values.now c.args.frame n)
-    (Some (record { first = get_or c.args.values.now c.in-Some.from 0; best = c.item-before-best.result }))) size
-    (separators_kept g.K.Ordered.before (lawful g) c.args.k.now c.args.keys.now c.args.values.now c.in-Some.from (c.args.size - 1) c.not-after-count.result _
+    (Some (record { first = get_or c.args.values.now c.in-Some.from 0; best = c.item_before-best.result }))) size
+    (separators_kept g.K.Ordered.before (lawful g) c.args.k.now c.args.keys.now c.args.values.now c.in-Some.from (c.args.size - 1) c.not_after-count.result _
     (ap (λ (n : ℕ). take n (drop (c.in-Some.from + 1) c.args.keys.now)) less ∙ ap (λ (n : ℕ). take (c.args.size - 1) (drop n c.args.keys.now)) others)
-    c.not-after-count.ensures.count _ (slice_get-get_or c.args.values.now c.in-Some.from 0 within) c.item-before-best.result
-    (c.item-before-best.ensures ∙ ap (λ (n : ℕ). item_before c.args.keys.now c.args.values.now n (n + c.not-after-count.result)) others)
+    c.not_after-count.ensures.count _ (slice_get-get_or c.args.values.now c.in-Some.from 0 within) c.item_before-best.result
+    (c.item_before-best.ensures ∙ ap (λ (n : ℕ). item_before c.args.keys.now c.args.values.now n (n + c.not_after-count.result)) others)
     c.args.frame c.in-Some.ensures.place (omega (arith, c.if-size-gt64.false, size)))

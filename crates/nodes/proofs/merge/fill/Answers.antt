@@ -13,10 +13,10 @@ loop-cursor-init g c =
     begun g.K.Ordered.before (deltas_from c.args.depth c.args.records.now c.args.head) c.args.keys.now c.args.values.now c.args.start c.args.stop c.args.floor c.args.top (lawful g)
     c.scan.result c.scan.ensures
 
-pub returns-in-default : goal.returns-in-default
-returns-in-default g c =
+pub returns-in_default : goal.returns-in_default
+returns-in_default g c =
     turn_stops g.K.Ordered.before (deltas_from c.args.depth c.args.records.now c.args.head) c.args.keys.now c.args.values.now c.args.start c.args.stop c.args.floor c.args.top (lawful g)
-    c.loop-cursor.keys c.loop-cursor.values c.loop-cursor.cursor c.loop-cursor.invariant c.loop-cursor-test.true _ refl _ _ c.in-default.ensures.cursor
+    c.loop-cursor.keys c.loop-cursor.values c.loop-cursor.cursor c.loop-cursor.invariant c.loop-cursor-test.true _ refl _ _ c.in_default.ensures.cursor
 
 pub loop-cursor-preserved : goal.loop-cursor-preserved
 loop-cursor-preserved g c =

@@ -13,10 +13,10 @@ module _ {K : Type 0} (before : K → K → Bool) (last : Option K) (s : Seen K)
   more : (r t : Seen K) (ds es : List (Delta K)) (d : Delta K) → r ≡ scanned before last s ds → ds ≡ d ∷ es → t ≡ looked before last s d d.kind → r ≡ scanned before last t es
   more r t ds es d inv e f = inv ∙ ap (λ (l : List (Delta K)). scanned before last s l) e ∙ ap (λ (u : Seen K). scanned before last u es) (sym f)
 
-pub returns-in-default : goal.returns-in-default
-returns-in-default g c =
+pub returns-in_default : goal.returns-in_default
+returns-in_default g c =
     ended g.K.Ordered.before c.args.last c.loop-left.seen _ _ c.loop-left.invariant
-    (deltas_frame c.args.records.now c.loop-left.left c.in-default.field-0 c.loop-left.at c.in-default.is)
+    (deltas_frame c.args.records.now c.loop-left.left c.in_default.field-0 c.loop-left.at c.in_default.is)
 
 pub returns-then-number-records : goal.returns-then-number-records
 returns-then-number-records g c =

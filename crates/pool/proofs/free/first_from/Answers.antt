@@ -4,14 +4,14 @@ use Rattle.pool.specs.Free.{first_in}
 use Rattle.pool.proofs.Firsts.{first_here, first_next}
 use Rattle.pool.proofs.free.first_from.Goals as goal
 
-pub returns-then-is-free : goal.returns-then-is-free
-returns-then-is-free g c =
-    sym (first_here g.T.Pooled.free c.args.xs.now c.loop-at.at c.index-xs-at.result (omega arith) c.index-xs-at.is (sym c.if-is-free.ensures))
+pub returns-then-is_free : goal.returns-then-is_free
+returns-then-is_free g c =
+    sym (first_here g.T.Pooled.free c.args.xs.now c.loop-at.at c.index-xs-at.result (omega arith) c.index-xs-at.is (sym c.if-is_free.ensures))
     ∙ c.loop-at.invariant
 
 pub loop-at-preserved : goal.loop-at-preserved
 loop-at-preserved g c =
-    first_next g.T.Pooled.free c.args.xs.now c.loop-at.at c.index-xs-at.result (omega arith) c.index-xs-at.is (sym c.if-is-free.ensures)
+    first_next g.T.Pooled.free c.args.xs.now c.loop-at.at c.index-xs-at.result (omega arith) c.index-xs-at.is (sym c.if-is_free.ensures)
     ∙ c.loop-at.invariant
 
 pub returns : goal.returns

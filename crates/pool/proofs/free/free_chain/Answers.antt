@@ -6,9 +6,9 @@ use Rattle.pool.proofs.free.free_chain.Goals as goal
 pub returns-in-Frame : goal.returns-in-Frame
 returns-in-Frame g c = sym (chain_at_frame c.loop-left.left c.loop-left.records c.loop-left.at c.in-Frame.field-0 c.in-Frame.is) ∙ c.loop-left.invariant
 
-pub returns-in-default : goal.returns-in-default
-returns-in-default g c =
-    sym (chain_leaves c.loop-left.left c.loop-left.records c.loop-left.at c.in-Record.i c.in-Record.is (sym c.peek.ensures ∙ c.in-default.is))
+pub returns-in_default : goal.returns-in_default
+returns-in_default g c =
+    sym (chain_leaves c.loop-left.left c.loop-left.records c.loop-left.at c.in-Record.i c.in-Record.is (sym c.peek.ensures ∙ c.in_default.is))
     ∙ c.loop-left.invariant
 
 pub loop-left-preserved : goal.loop-left-preserved

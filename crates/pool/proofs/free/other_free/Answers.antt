@@ -9,12 +9,12 @@ pub returns-then-i-xs : goal.returns-then-i-xs
 returns-then-i-xs g c =
     let none = drop_all (c.args.i + 1) c.args.xs.now (omega arith) in
     let all = take_all c.args.i c.args.xs.now (omega arith) in
-    c.first-from.ensures ∙ rw (none, all)
+    c.first_from.ensures ∙ rw (none, all)
 
 pub returns-in-Some : goal.returns-in-Some
 returns-in-Some g c = ap (λ o. or_else o (first_in g.T.Pooled.free 0 (take c.args.i c.args.xs.now))) c.in-Some.ensures
 
 pub returns-in-None : goal.returns-in-None
 returns-in-None g c =
-    simp sub-zero at c.first-from-in-None.ensures
+    simp sub-zero at c.first_from-in-None.ensures
     ∙ ap (λ o. or_else o (first_in g.T.Pooled.free 0 (take c.args.i c.args.xs.now))) c.in-None.ensures

@@ -5,7 +5,7 @@ use Rattle.pool.proofs.waits.leave.Goals as goal
 
 pub loop-f-preserved : goal.loop-f-preserved
 loop-f-preserved g c =
-    rw add-one (c.leave-frame.ensures ∙ ap (λ (p : Pools g.row.K.Denot). left_frame p c.args.seat c.loop-f.f (slice_get p.frames c.loop-f.f)) c.loop-f.invariant)
+    rw add-one (c.leave_frame.ensures ∙ ap (λ (p : Pools g.row.K.Denot). left_frame p c.args.seat c.loop-f.f (slice_get p.frames c.loop-f.f)) c.loop-f.invariant)
 
 pub returns : goal.returns
 returns g c =
