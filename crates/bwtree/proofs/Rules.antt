@@ -1,5 +1,5 @@
 -- rules that give an outcome or are impossible, put together by `bind`
-use Rattle.std.proofs.Common.{◌≡◌, ℕ, Bool, true, false, cond, Some, None, Option, sym, refl, ◌∙◌, subst, arith}
+use Rattle.std.proofs.Common.{◌≡◌, ℕ, Bool, true, false, cond, Some, None, Option, sym, refl, subst, arith}
 use Rattle.nodes.specs.Build.{Arrays, Kept, Outcome, Promised, carried_out}
 use Rattle.nodes.specs.Chains.{bind}
 

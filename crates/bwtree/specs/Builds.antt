@@ -1,5 +1,5 @@
 -- build: the frame of a consolidation, and all that a split takes
-use Rattle.std.specs.Prelude.{ℕ, Bool, true, false, cond, List, [], ◌∷◌, Some, None, Option, ◌==◌, nat_lt}
+use Rattle.std.specs.Prelude.{ℕ, Bool, true, false, Some, None, Option, ◌==◌, nat_lt}
 use Rattle.std.specs.List.{slice_get}
 use Rattle.nodes.specs.declared.node.Attributes.{Attributes}
 use Rattle.nodes.specs.declared.node.Frame.{Frame}
@@ -11,7 +11,7 @@ use Rattle.nodes.specs.declared.node.Level.{Level}
 use Rattle.nodes.specs.declared.node.Level.TheVariants as levels
 use Rattle.nodes.specs.declared.node.Record.{Record}
 use Rattle.nodes.specs.declared.node.Slot.{Slot}
-use Rattle.nodes.specs.Build.{Arrays, built}
+use Rattle.nodes.specs.Build.{built}
 use Rattle.nodes.specs.Chains.{bind, attributes_of}
 use Rattle.nodes.specs.Frames.{start_of}
 use Rattle.pool.specs.Free.{next_free, other_free, free_frame, empty_slot}

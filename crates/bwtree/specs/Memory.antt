@@ -1,5 +1,5 @@
 -- the memory that the caller lends, and how a rule changes it
-use Rattle.std.specs.Prelude.{ℕ, ◌+◌, ◌-◌, ◌*◌, ◌^◌, min, Bool, true, false, cond, ◌&&◌, List, [], ◌∷◌, length, Some, None, Option, slice_set}
+use Rattle.std.specs.Prelude.{ℕ, ◌+◌, ◌-◌, ◌^◌, min, List, length, Option, slice_set}
 use Rattle.std.specs.List.{slice_get}
 use Rattle.nodes.specs.declared.node.Frame.{Frame}
 use Rattle.nodes.specs.declared.node.Head.{Head}

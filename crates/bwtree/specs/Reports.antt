@@ -1,5 +1,5 @@
 -- report: a seat's counters, and what every record of the index is in use for
-use Rattle.std.specs.Prelude.{ℕ, ◌+◌, ◌-◌, ◌^◌, min, Bool, true, false, cond, List, [], ◌∷◌, length, Some, None, Option, ◌==◌, nat_lt}
+use Rattle.std.specs.Prelude.{ℕ, ◌+◌, ◌-◌, ◌^◌, min, cond, List, [], ◌∷◌, length, Some, None, Option, ◌==◌, nat_lt}
 use Rattle.std.specs.List.{slice_get}
 use Rattle.nodes.specs.declared.node.Frame.{Frame}
 use Rattle.nodes.specs.declared.node.FrameState.{FrameState}

@@ -1,5 +1,5 @@
 -- begin and step, with their refusals in order
-use Rattle.std.specs.Prelude.{ℕ, ◌*◌, Bool, true, false, cond, not, ◌&&◌, length, Some, None, Option, ◌==◌, nat_le, nat_lt}
+use Rattle.std.specs.Prelude.{ℕ, ◌*◌, Bool, true, false, cond, ◌&&◌, length, Some, Option, ◌==◌, nat_le, nat_lt}
 use Rattle.std.specs.List.{slice_get}
 use Rattle.nodes.specs.Chains.{bind}
 use Rattle.bwtree.specs.declared.answer.Answer.TheVariants as answers

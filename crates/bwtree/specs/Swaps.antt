@@ -1,5 +1,5 @@
 -- the compare-and-swaps of an operation: swap, post read, post swap
-use Rattle.std.specs.Prelude.{ℕ, Bool, true, false, cond, List, [], ◌∷◌, Some, None, Option, ◌==◌}
+use Rattle.std.specs.Prelude.{ℕ, Bool, true, false, List, [], ◌∷◌, Some, None, Option, ◌==◌}
 use Rattle.std.specs.List.{slice_get}
 use Rattle.nodes.specs.declared.node.FrameState.TheVariants as states
 use Rattle.nodes.specs.declared.node.Head.{Head}

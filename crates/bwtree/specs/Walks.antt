@@ -1,5 +1,5 @@
 -- the reads and walks of an operation: root read, root walk, leaf read, leaf walk
-use Rattle.std.specs.Prelude.{ℕ, Bool, true, false, cond, not, ◌&&◌, List, [], ◌∷◌, Some, None, Option, nat_le}
+use Rattle.std.specs.Prelude.{ℕ, Bool, true, false, cond, not, ◌&&◌, List, Some, None, Option, nat_le}
 use Rattle.std.specs.List.{slice_get}
 use Rattle.keys.specs.Order.{same_key}
 use Rattle.nodes.specs.declared.node.Attributes.{Attributes}
@@ -10,13 +10,10 @@ use Rattle.nodes.specs.declared.node.Item.{Item}
 use Rattle.nodes.specs.declared.node.Kind.{Kind}
 use Rattle.nodes.specs.declared.node.Kind.TheVariants as kinds
 use Rattle.nodes.specs.declared.node.Record.{Record}
-use Rattle.nodes.specs.declared.frame.Separators.{Separators}
 use Rattle.nodes.specs.Chains.{bind, attributes_of}
 use Rattle.nodes.specs.Frames.{found_in_frame, separators_in_frame}
 use Rattle.pool.specs.Free.{next_free}
-use Rattle.bwtree.specs.declared.answer.End.{End}
 use Rattle.bwtree.specs.declared.answer.End.TheVariants as ends
-use Rattle.bwtree.specs.declared.seat.Cursors.{Cursors}
 use Rattle.bwtree.specs.declared.seat.Phase.{Phase}
 use Rattle.bwtree.specs.declared.seat.Phase.TheVariants as phases
 use Rattle.bwtree.specs.declared.seat.Request.{Request}

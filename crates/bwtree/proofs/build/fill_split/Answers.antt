@@ -1,4 +1,4 @@
-use Rattle.std.proofs.Common.{None, sym, ap, ◌∙◌}
+use Rattle.std.proofs.Common.{sym, ◌∙◌}
 use Rattle.bwtree.proofs.Rules.{built_not, built_then, promised_known, promised_none}
 use Rattle.bwtree.proofs.build.fill_split.Goals as goal
 

@@ -1,4 +1,4 @@
-use Rattle.std.proofs.Common.{sym, refl, ap, ◌∙◌, rules}
+use Rattle.std.proofs.Common.{sym, ◌∙◌}
 use Rattle.bwtree.proofs.Rules.{promised_known, promised_kept, promised_nothing}
 use Rattle.bwtree.proofs.leaf_walk.leaf_walk.Goals as goal
 

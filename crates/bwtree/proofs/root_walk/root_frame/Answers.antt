@@ -1,4 +1,4 @@
-use Rattle.std.proofs.Common.{sym, refl, ap, ◌∙◌, rules}
+use Rattle.std.proofs.Common.{sym, ◌∙◌, rules}
 use Rattle.bwtree.proofs.Rules.{promised_known, promised_kept, promised_nothing}
 use Rattle.bwtree.proofs.root_walk.root_frame.Goals as goal
 
