@@ -1,5 +1,5 @@
 -- checking accepts exactly the images, and the entries read are those that the image was made of
-use Rattle.std.proofs.Common.{◌≡◌, ℕ, zero, suc, ◌+◌, ◌-◌, ◌*◌, ◌^◌, ◌<◌, ◌≤◌, Bool, true, false, cond, eqb, ltb, List, [], ◌∷◌, ◌++◌, length, take, drop, is_ok, Some, None, Ok, Err, Option, Result, sym, refl, ap, ◌∙◌, add-zero, suc-mul, add-mul, one-mul, zero-mul, mul-add, arith, length-append, length-drop, take-add}
+use Rattle.std.proofs.Common.{◌≡◌, ℕ, zero, suc, ◌+◌, ◌*◌, ◌≤◌, Bool, true, false, eqb, ltb, List, [], ◌∷◌, ◌++◌, length, take, drop, is_ok, Some, None, Ok, Err, Option, Result, sym, refl, ap, ◌∙◌, suc-mul, add-mul, zero-mul, mul-add, arith, length-append, take-add}
 use Rattle.std.proofs.lemmas.List.{append_cancel_left, take_all, take_at, drop_at, drop-drop}
 use Rattle.std.proofs.lemmas.Bool.{cases_Bool, eq-eqb, eqb-true, le-ltb, ltb-false}
 use Rattle.image.specs.declared.refusal.Refusal.{Refusal}
@@ -7,7 +7,7 @@ use Rattle.std.specs.List.{flat_map}
 use Rattle.keys.specs.Bytes.{Bytes, big_endian, number_of}
 use Rattle.keys.specs.Order.{Lawful}
 use Rattle.keys.specs.BytesLemmas.{length-big_endian, big_endian_number_of, big_endian-apart, number_of_big_endian, bytes_take, bytes_drop}
-use Rattle.image.specs.Image.{IsImage, image_length, image_of, key_forms, value_forms, part, width_in, count_in, key_part, value_part, entry_at, entries_from, entries_in, entries_of, keys_of, most_entries}
+use Rattle.image.specs.Image.{IsImage, image_length, image_of, key_forms, value_forms, part, width_in, count_in, key_part, entry_at, entries_from, entries_in, entries_of, keys_of, most_entries}
 use Rattle.image.specs.Verdict.{verdict, verdict_after, sizes_verdict, order_verdict, first_unordered}
 use Rattle.image.specs.declared.entry.Entry.{Entry}
 use Rattle.image.proofs.Places.{length_part, length-entries_from}

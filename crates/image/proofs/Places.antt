@@ -1,7 +1,7 @@
 -- where keys and values lie in bytes, and what is read there
-use Rattle.std.proofs.Common.{◌≡◌, ℕ, zero, suc, ◌+◌, ◌-◌, ◌*◌, ◌<◌, ◌≤◌, Bool, true, false, cond, eqb, ltb, List, [], ◌∷◌, map, length, drop, Some, None, Option, sym, refl, ap, ◌∙◌, add-zero, mul-le-mul_right, suc-mul, zero-add, mul-add, arith, length-drop}
+use Rattle.std.proofs.Common.{◌≡◌, ℕ, zero, suc, ◌+◌, ◌-◌, ◌*◌, ◌<◌, ◌≤◌, true, false, cond, eqb, ltb, List, length, drop, Some, None, refl, ap, ◌∙◌, add-zero, mul-le-mul_right, suc-mul, zero-add, mul-add, arith, length-drop}
 use Rattle.std.proofs.lemmas.List.{length-take-le}
-use Rattle.std.proofs.lemmas.Bool.{cases_Bool, cases_lt, eq-eqb, lt-ltb, le-ltb, ltb-true, ltb-false}
+use Rattle.std.proofs.lemmas.Bool.{cases_Bool, cases_lt, eq-eqb, lt-ltb, le-ltb, ltb-true}
 use Rattle.std.specs.List.{slice_get}
 use Rattle.image.specs.Image.{part, key_part, value_part, entry_at, entries_from, entries_in}
 use Rattle.image.specs.Read.{entry_parts, decoded_pair}

@@ -1,4 +1,4 @@
-use Rattle.std.specs.Prelude.{ℕ, ◌+◌, ◌-◌, ◌/◌, ◌%◌, cond, List, length, Some, None, Option, ◌==◌, nat_lt}
+use Rattle.std.specs.Prelude.{ℕ, ◌-◌, ◌/◌, ◌%◌, cond, List, length, Some, None, Option, ◌==◌, nat_lt}
 use Rattle.image.specs.Image.{part}
 use Rattle.image.specs.Read.{entry_parts}
 use Rattle.image.specs.declared.reader.walk.Part as parts

@@ -1,9 +1,7 @@
 -- texts that grow at their end, by a byte in hex and by a space
-use Rattle.std.proofs.Common.{◌≡◌, ℕ, ◌+◌, ◌/◌, ◌%◌, ◌<◌, Bool, List, [], ◌∷◌, ◌++◌, length, get_or, take, replicate, IfOk, Ok, Err, Decides, Result, sym, refl, ap, ◌∙◌, append_assoc, rules}
+use Rattle.std.proofs.Common.{◌≡◌, ℕ, ◌+◌, ◌/◌, ◌%◌, ◌<◌, List, [], ◌∷◌, ◌++◌, length, get_or, take, replicate, IfOk, Ok, Err, Result, sym, refl, ap, ◌∙◌, append_assoc}
 use lib.ListN.{replicate-append-replicate}
 use Rattle.std.proofs.lemmas.List.{take_more}
-use Rattle.std.proofs.lemmas.Slice.Eq.{bytes_eq-Decides}
-use Rattle.std.specs.Str.{bytes_eq}
 use Rattle.inspect.specs.Lines.{hex_digit, hex_of}
 
 hex_of-append : (xs ys : List ℕ) → hex_of (xs ++ ys) ≡ hex_of xs ++ hex_of ys
@@ -26,7 +24,3 @@ pushed_twice text once twice e f a b p q r s =
 pub made_equal : {T E : Type 0} (f : T → List ℕ) (r : Result T E) {a b : List ℕ} → a ≡ b → IfOk r (λ t. f t ≡ a) → IfOk r (λ t. f t ≡ b)
 made_equal f (Ok t) e h = h ∙ e
 made_equal f (Err problem) e h = h
-
--- a test that decides whether texts are equal answers as the test byte by byte
-pub same_decided : (xs ys : List ℕ) (r : Bool) → Decides r (xs ≡ ys) → bytes_eq xs ys ≡ r
-same_decided xs ys r h = search (rules, bytes_eq-Decides)

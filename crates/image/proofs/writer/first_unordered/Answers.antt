@@ -1,4 +1,4 @@
-use Rattle.std.proofs.Common.{◌≡◌, ◌<◌, length, sym, ◌∙◌, arith, rules}
+use Rattle.std.proofs.Common.{◌<◌, length, sym, ◌∙◌, arith, rules}
 use Rattle.image.proofs.Unordered.{nth_within, unordered_empty, unordered_next, unordered_here, unordered_end}
 use Rattle.image.proofs.writer.first_unordered.Goals as goal
 

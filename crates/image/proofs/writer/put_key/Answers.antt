@@ -1,4 +1,4 @@
-use Rattle.std.proofs.Common.{◌≡◌, true, cond, sym, ◌∙◌, rules}
+use Rattle.std.proofs.Common.{◌≡◌, sym, ◌∙◌, rules}
 use Rattle.image.proofs.Splices.{put_mid_splice}
 use Rattle.image.proofs.writer.put_key.Goals as goal
 

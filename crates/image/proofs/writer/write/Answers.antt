@@ -1,4 +1,4 @@
-use Rattle.std.proofs.Common.{◌≡◌, length, ap, ◌∙◌, rules}
+use Rattle.std.proofs.Common.{length, ap, ◌∙◌, rules}
 use Rattle.image.specs.Written.{with_entries}
 use Rattle.image.proofs.Splices.{image_written, room_known}
 use Rattle.image.proofs.writer.write.Goals as goal

@@ -1,4 +1,4 @@
-use Rattle.std.proofs.Common.{◌≡◌, length, arith}
+use Rattle.std.proofs.Common.{length, arith}
 use Rattle.image.proofs.Places.{within}
 use Rattle.image.proofs.Splices.{length_known}
 use Rattle.image.proofs.writer.write_entry.Goals as goal

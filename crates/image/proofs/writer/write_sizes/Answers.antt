@@ -1,7 +1,6 @@
-use Rattle.std.proofs.Common.{◌≡◌, length, drop, ap, ◌∙◌, rules}
+use Rattle.std.proofs.Common.{◌≡◌, rules}
 use Rattle.keys.specs.Bytes.{big_endian}
 use Rattle.keys.specs.BytesLemmas.{length-big_endian}
-use Rattle.image.specs.Written.{splice}
 use Rattle.image.proofs.Splices.{sizes_spliced}
 use Rattle.image.proofs.writer.write_sizes.Goals as goal
 

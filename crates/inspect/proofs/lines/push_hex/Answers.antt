@@ -1,4 +1,4 @@
-use Rattle.std.proofs.Common.{ℕ, ◌/◌, ◌%◌, List, [], ◌∷◌, string_bytes, ap, ◌∙◌}
+use Rattle.std.proofs.Common.{◌/◌, ◌%◌, [], ◌∷◌, string_bytes, ap, ◌∙◌}
 use lib.Utf8.{encode}
 use Rattle.inspect.specs.Lines.{hex_digit}
 use Rattle.inspect.proofs.Texts.{pushed_twice}

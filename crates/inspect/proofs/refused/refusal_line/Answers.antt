@@ -1,4 +1,4 @@
-use Rattle.std.proofs.Common.{ℕ, List, ◌++◌, string_bytes, codes, decimal, ap, ◌∙◌}
+use Rattle.std.proofs.Common.{string_bytes, ap, ◌∙◌}
 use Rattle.inspect.specs.Refused.{refusal_text}
 use Rattle.inspect.proofs.Texts.{made_equal}
 use Rattle.inspect.proofs.refused.refusal_line.Goals as goal

@@ -1,13 +1,8 @@
 use Rattle.std.proofs.Common.{◌++◌, string_bytes, sym, ap, ◌∙◌, append-nil, arith}
 use Rattle.std.proofs.lemmas.List.{drop_all}
-use Rattle.std.proofs.lemmas.Result.{err_from_is_err_and}
 use Rattle.inspect.specs.Table.{lines_from}
 use Rattle.inspect.proofs.Entries.{drop_item, text_more}
 use Rattle.inspect.proofs.table.lines.Goals as goal
-
-pub returns-in_err-push_str : goal.returns-in_err-push_str
-returns-in_err-push_str g c =
-    let p = err_from_is_err_and c.from-residual-in_err-push_str.result c.from-residual-in_err-push_str.ensures.1 in rw p.1 tt
 
 pub loop-place-preserved : goal.loop-place-preserved
 loop-place-preserved g c =

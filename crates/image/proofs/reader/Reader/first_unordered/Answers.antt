@@ -1,4 +1,4 @@
-use Rattle.std.proofs.Common.{◌≡◌, ◌<◌, sym, ◌∙◌, arith, rules}
+use Rattle.std.proofs.Common.{◌<◌, sym, ◌∙◌, arith, rules}
 use Rattle.image.proofs.Places.{cond_same, nth_below}
 use Rattle.image.proofs.Unordered.{unordered_empty, unordered_next, unordered_here, unordered_end}
 use Rattle.image.proofs.reader.Reader.first_unordered.Goals as goal
