@@ -5,7 +5,7 @@ use Rattle.std.proofs.lemmas.Bool.Decides.{nat_tests}
 use Rattle.bwtree.specs.declared.seat.Request.{Request}
 use Rattle.laws.specs.Worlds.{Phase, Idle, RootRead, RootWalk, LeafRead, LeafWalk, Build, RootBuild, Swap, RootSwap, SplitSwap, PostRead, PostSwap, World, Granted, unchanged, Call, Begin, Step, Tell}
 use Rattle.laws.specs.Acts.{Act, Reads, Fails, Goes, Ends, Replaces, Divides, Roots, Refuses, act}
-use Rattle.laws.specs.Calls.{Turn, Made, at, perform, begin, is_idle, seat_of, seated, call, taking, run, after}
+use Rattle.laws.specs.Calls.{Turn, Made, at, perform, begin, is_idle, seat_of, seated, taking, run, after}
 use Rattle.laws.specs.Histories.{one_failed, one_installed, installed_in, failed_by, installed_by_others}
 use Rattle.laws.proofs.Shapes.{stale, Shaped, act_shaped}
 

@@ -2,7 +2,7 @@
 use Rattle.std.proofs.Common.{◌≡◌, ℕ, zero, suc, ◌<◌, Bool, true, false, cond, List, [], ◌∷◌, ◌++◌, length, take, drop, Some, None, Option, sym, refl, ◌∙◌, subst, arith}
 use Rattle.std.specs.List.{slice_get, AllByRecursion as All}
 use Rattle.std.proofs.ByRecursion.{All-append, All-weaker}
-use Rattle.std.proofs.lemmas.Bool.{both_ways, cond_both, and_parts, and_from}
+use Rattle.std.proofs.lemmas.Bool.{both_ways, cond_both, and_from}
 use Rattle.keys.specs.Order.{Lawful, same_key}
 use Rattle.keys.proofs.Laws.{asymmetric, same_equal, before_not_after}
 use Rattle.nodes.proofs.Items.{Ascending, Over, Under, lookup_over, over_weaker}

@@ -12,7 +12,7 @@ use Rattle.bwtree.specs.Deltas.{cut}
 use Rattle.laws.specs.Chains.{Chain, On, upper}
 use Rattle.laws.specs.Worlds.{Node, Phase, Idle, RootRead, RootWalk, LeafRead, LeafWalk, Build, RootBuild, Swap, RootSwap, SplitSwap, PostRead, PostSwap, Seat, World, Granted, find, sit, holds, Call, Begin, Step, Tell}
 use Rattle.laws.specs.Acts.{Act, Reads, Fails, Goes, Ends, Replaces, Divides, Roots, Refuses, act}
-use Rattle.laws.specs.Calls.{at, placed, rooted, divided, perform, begin, is_idle, seat_of, seated, call, Turn, Made, taking}
+use Rattle.laws.specs.Calls.{at, placed, rooted, divided, perform, begin, is_idle, seat_of, seated, Turn, Made, taking}
 use Rattle.laws.proofs.Items.{never, none_some, some_injective}
 use Rattle.laws.proofs.Replays.{low, high, right, size, Fits, Wide, Sound, CutAt, walked, consolidated_sound, cut_wide, cut_within, upper_sound}
 use Rattle.laws.proofs.Leaves.{node, find_here, find_cases, find_missing, missing_head, find_neither, found_tile, find_splice_same, find_splice_other, find_splice_new, find_splice_none, all_splice, Absent, Follows, Tiled, wide_at, tiled_splice, ground_splice}

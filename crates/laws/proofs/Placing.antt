@@ -13,7 +13,7 @@ use Rattle.nodes.specs.declared.node.Kind.TheVariants as kinds
 use Rattle.laws.specs.Chains.{On, attributes_of}
 use Rattle.laws.specs.Worlds.{Phase, Idle, RootRead, PostRead, Seat, World, Granted, sit, Call, Begin, Step, Tell}
 use Rattle.laws.specs.Acts.{Act, Reads, Fails, Goes, Ends, Replaces, Divides, Roots, Refuses, act}
-use Rattle.laws.specs.Calls.{Did, Opened, ReadLeaf, Installed, Failed, Otherwise, Turn, Made, Event, turn, perform, begin, is_idle, seat_of, seated, call, taking, event, run}
+use Rattle.laws.specs.Calls.{Did, Opened, ReadLeaf, Installed, Failed, Otherwise, Turn, Made, Event, turn, perform, begin, is_idle, seat_of, seated, taking, event, run}
 use Rattle.laws.specs.Histories.{Ended, Operation, Placed, changes, keeps, settled, comes, coming, begun, operation, read_at, swapped_at, moment_at, moments, ended_at, endings, InOrder, Between, weigh}
 use Rattle.laws.proofs.Items.{none_some, some_injective}
 use Rattle.laws.proofs.Shapes.{Settles, Shaped, act_shaped}

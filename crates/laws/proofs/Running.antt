@@ -15,7 +15,7 @@ use Rattle.bwtree.specs.Deltas.{cut}
 use Rattle.laws.specs.Chains.{Chain, On, attributes_of, replay, consolidated, upper}
 use Rattle.laws.specs.Worlds.{Node, Phase, Idle, RootRead, RootWalk, LeafRead, LeafWalk, Build, RootBuild, Swap, RootSwap, SplitSwap, PostRead, PostSwap, World, Granted, unchanged, find, Call, Begin, Step, Tell}
 use Rattle.laws.specs.Acts.{Act, Reads, Fails, Goes, Ends, Replaces, Divides, Roots, Refuses, end_for, value_for, act}
-use Rattle.laws.specs.Calls.{ReadLeaf, Installed, Turn, Made, Event, turn, at, placed, divided, perform, begin, is_idle, seat_of, seated, call, taking, event, run, after}
+use Rattle.laws.specs.Calls.{ReadLeaf, Installed, Turn, Made, Event, turn, at, placed, divided, perform, begin, is_idle, seat_of, seated, taking, event, run, after}
 use Rattle.laws.specs.Histories.{Ended, changes, coming, begun, read_at, moment_at, moments}
 use Rattle.laws.specs.Maps.{Plain, Reply, Asked, reply, asked, held, says_of, then_of, next, put, Gives, fill}
 use Rattle.laws.specs.Theorem.{impossible}

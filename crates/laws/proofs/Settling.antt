@@ -7,7 +7,7 @@ use Rattle.bwtree.specs.declared.answer.End.{End}
 use Rattle.bwtree.specs.declared.seat.Request.{Request}
 use Rattle.laws.specs.Worlds.{Phase, RootRead, PostRead, Seat, World, Granted, sit, Call, Begin, Step, Tell}
 use Rattle.laws.specs.Acts.{Act, Reads, Fails, Goes, Ends, Replaces, Divides, Roots, Refuses, act}
-use Rattle.laws.specs.Calls.{Turn, Made, Event, at, perform, begin, is_idle, seat_of, seated, call, taking, run}
+use Rattle.laws.specs.Calls.{Turn, Made, Event, perform, begin, is_idle, seat_of, seated, taking, run}
 use Rattle.laws.specs.Histories.{Ended, keeps, comes, coming}
 use Rattle.laws.specs.Maps.{Reply, reply}
 use Rattle.laws.proofs.Items.{none_some, some_injective}

@@ -1,5 +1,5 @@
 -- a call that does not answer stored or removed leaves every item where it was
-use Rattle.std.proofs.Common.{◌≡◌, ℕ, Bool, true, false, cond, ltb, List, [], ◌∷◌, ◌++◌, drop, Some, None, sym, refl, ap, ◌∙◌, subst, append-nil}
+use Rattle.std.proofs.Common.{◌≡◌, ℕ, Bool, true, false, ltb, List, [], ◌∷◌, ◌++◌, drop, Some, sym, refl, ap, ◌∙◌, subst, append-nil}
 use Rattle.std.proofs.lemmas.Bool.{cond_both}
 use Rattle.keys.specs.Order.{Lawful}
 use Rattle.bwtree.specs.declared.answer.End.{End}
@@ -15,7 +15,7 @@ use Rattle.laws.specs.Calls.{Made, Turn, begin, divided, is_idle, perform, place
 use Rattle.laws.specs.Histories.{changes}
 use Rattle.laws.specs.Theorem.{changing}
 use Rattle.laws.proofs.Items.{never, some_injective}
-use Rattle.laws.proofs.Replays.{size, Sound, CutAt, cut_parts}
+use Rattle.laws.proofs.Replays.{size, CutAt, cut_parts}
 use Rattle.laws.proofs.Leaves.{node, contents, contents_same, found_tile}
 use Rattle.laws.proofs.Standing.{Makes, Invariant}
 use Rattle.laws.proofs.Allowed.{Allowed, act_ok}

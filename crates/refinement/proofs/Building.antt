@@ -28,7 +28,7 @@ use Rattle.laws.specs.Calls.{perform}
 use Rattle.laws.specs.Chains.{Chain, attributes_of, consolidated, replay}
 use Rattle.laws.specs.Worlds.{Granted, Node, Phase as Place, Swap, World}
 use Rattle.refinement.specs.Following.{Follows, is_there}
-use Rattle.refinement.specs.Relation.{Owner, Free, Held, states_of, View, view, Snapshot, PhaseAs, making, Related}
+use Rattle.refinement.specs.Relation.{Owner, Held, states_of, View, view, Snapshot, PhaseAs, making, Related}
 use Rattle.refinement.specs.Resolved.{Ground, Leaf, store_of, level_of, laid, carried, Framed, Resolved}
 use Rattle.refinement.proofs.Laying.{framed_here, kept_laid, laid_out, related_laid, taken}
 use Rattle.refinement.proofs.Leaving.{follows_ended}

@@ -1,5 +1,5 @@
 -- a chain is no deeper than there are records: each of its records has a depth of its own
-use Rattle.std.proofs.Common.{◌≡◌, ℕ, zero, suc, ◌+◌, ◌<◌, ◌≤◌, Bool, true, false, cond, leb, List, [], ◌∷◌, length, Some, None, sym, refl, ap, ◌∙◌, subst, arith}
+use Rattle.std.proofs.Common.{◌≡◌, ℕ, zero, suc, ◌+◌, ◌≤◌, Bool, cond, leb, List, [], ◌∷◌, length, Some, sym, ap, ◌∙◌, subst, arith}
 use Rattle.std.specs.List.{slice_get}
 use Rattle.std.proofs.lemmas.Bool.{cases_Bool}
 use Rattle.std.proofs.lemmas.Bool.Decides.{nat_tests}
@@ -8,8 +8,8 @@ use Rattle.nodes.specs.declared.node.Head.{Head}
 use Rattle.nodes.specs.declared.node.Record.{Record}
 use Rattle.nodes.proofs.Ranges.{none_some, some_same}
 use Rattle.bwtree.specs.Memory.{Memory}
-use Rattle.laws.specs.Chains.{Chain, Base, On}
-use Rattle.refinement.specs.Resolved.{Store, Ground, store_of, deltas_of, carried, delta_over, Resolved, base, on}
+use Rattle.laws.specs.Chains.{Chain}
+use Rattle.refinement.specs.Resolved.{Store, Ground, store_of, carried, delta_over, Resolved, base, on}
 use Rattle.refinement.proofs.Places.{length_map}
 
 module _ {K : Type 0} where

@@ -1,12 +1,11 @@
 -- what memory grants to a step, and that every step follows the index without memory
-use Rattle.std.proofs.Common.{◌≡◌, ℕ, Bool, true, false, Some, None, Option}
+use Rattle.std.proofs.Common.{◌≡◌, ℕ, Bool, false, Some, None, Option}
 use Rattle.std.specs.List.{slice_get}
 use Rattle.nodes.specs.declared.node.Head.{Head}
 use Rattle.nodes.specs.declared.node.Item.{Item}
 use Rattle.bwtree.specs.declared.answer.Report.{Report}
 use Rattle.bwtree.specs.declared.seat.Phase.{Phase}
 use Rattle.bwtree.specs.declared.seat.Phase.TheVariants as phases
-use Rattle.bwtree.specs.declared.seat.Request.{Request}
 use Rattle.bwtree.specs.declared.seat.Seat.{Seat}
 use Rattle.bwtree.specs.Builds.{free_frame_for, free_record_for, free_slot_for, second_record_for}
 use Rattle.bwtree.specs.Memory.{Memory}
@@ -56,7 +55,7 @@ module _ {K : Type 0} (before : K → K → Bool) where
   -- memory that stands for the next world
   abbrev pub StepsFollow : Type 0
   StepsFollow =
-      (top : Item K) (m : Memory K) (w : World K) (own : Head → Owner) → Related before top m w own → Measured top w
+      (top : Item K) (m : Memory K) (w : World K) (own : Head → Owner) → Related before top m w own → Measured before top w
       → (s : ℕ) (it : Seat K) → slice_get m.seats s ≡ Some it
       → impossible (perform before w s (act before w (granting m it) (w.seats s).request (w.seats s).phase)).answer ≡ false
-      → Follows top (step_for before m s it it.phase) (perform before w s (act before w (granting m it) (w.seats s).request (w.seats s).phase))
+      → Follows before top (step_for before m s it it.phase) (perform before w s (act before w (granting m it) (w.seats s).request (w.seats s).phase))

@@ -7,7 +7,6 @@ use Rattle.nodes.specs.declared.node.FrameState.TheVariants as states
 use Rattle.nodes.specs.declared.node.Head.{Head}
 use Rattle.nodes.specs.declared.node.Head.TheVariants as heads
 use Rattle.nodes.specs.declared.node.Item.{Item}
-use Rattle.nodes.specs.declared.node.Record.{Record}
 use Rattle.nodes.specs.declared.node.Slot.{Slot}
 use Rattle.nodes.specs.Chains.{bind}
 use Rattle.nodes.proofs.Ranges.{none_some, some_same}

@@ -1,7 +1,7 @@
 -- a frame is taken and filled with items
-use Rattle.std.proofs.Common.{◌≡◌, ℕ, ◌+◌, ◌*◌, ◌<◌, ◌≤◌, Bool, true, false, cond, ◌&&◌, eqb, leb, ◌⊎◌, List, [], ◌∷◌, length, set, Some, None, Option, sym, refl, ap, ◌∙◌, subst, inl, inr, ⊎_elim, arith, length-set}
+use Rattle.std.proofs.Common.{◌≡◌, ℕ, ◌+◌, ◌*◌, ◌<◌, ◌≤◌, Bool, true, false, eqb, ◌⊎◌, List, length, Some, Option, sym, refl, ap, ◌∙◌, subst, inl, inr, ⊎_elim, arith, length-set}
 use Rattle.std.specs.List.{slice_get}
-use Rattle.std.proofs.lemmas.Bool.{cases_Bool, both_ways, cases_order, eqb-false, eqb-true, le-leb, ne_eqb}
+use Rattle.std.proofs.lemmas.Bool.{both_ways, cases_order, eqb-false, le-leb, ne_eqb}
 use Rattle.nodes.specs.declared.node.Attributes.{Attributes}
 use Rattle.nodes.specs.declared.node.Frame.{Frame}
 use Rattle.nodes.specs.declared.node.FrameState.{FrameState}
@@ -9,20 +9,20 @@ use Rattle.nodes.specs.declared.node.FrameState.TheVariants as states
 use Rattle.nodes.specs.declared.node.Head.{Head}
 use Rattle.nodes.specs.declared.node.Head.TheVariants as heads
 use Rattle.nodes.specs.declared.node.Item.{Item}
-use Rattle.nodes.specs.Build.{in_frame, puts}
+use Rattle.nodes.specs.Build.{in_frame}
 use Rattle.nodes.specs.Frames.{in_arrays, items_from, place_of}
 use Rattle.nodes.specs.Items.{ascends}
 use Rattle.bwtree.specs.declared.seat.Seat.{Seat}
 use Rattle.bwtree.specs.Memory.{Memory, set_frame, with_arrays}
 use Rattle.laws.specs.Chains.{Chain, Base}
 use Rattle.laws.specs.Worlds.{World}
-use Rattle.refinement.specs.Relation.{busy, Owner, Free, Chained, Held, Group, waits_for, Reachable, Seen, states_of, view, Grouped, Related}
-use Rattle.refinement.specs.Resolved.{Store, Ground, Leaf, Root, store_of, laid, carried, Framed, Resolved, base, on}
+use Rattle.refinement.specs.Relation.{busy, Owner, Free, Chained, Held, Group, waits_for, Reachable, states_of, view, Grouped, Related}
+use Rattle.refinement.specs.Resolved.{Ground, store_of, laid, carried, Framed, Resolved, base, on}
 use Rattle.refinement.proofs.Moves.{Kept, seat_kept, slot_kept}
-use Rattle.refinement.proofs.Places.{items_other, items_own, keys_of, length_puts, map_set, nth_below, nth_map, nth_of_map, nth_set_cases, nth_set_other, nth_set_same, values_of}
+use Rattle.refinement.proofs.Places.{items_other, items_own, keys_of, length_puts, map_set, nth_below, nth_map, nth_set_cases, nth_set_other, nth_set_same, values_of}
 use Rattle.refinement.proofs.Pooling.{unwaited as unwaited_frame}
 use Rattle.refinement.proofs.Resolving.{resolved_weaker}
-use Rattle.refinement.proofs.Taking.{Mine, mine_chained, mine_group, mine_held, mine_seen, owned, owned_keep, owned_same}
+use Rattle.refinement.proofs.Taking.{Mine, mine_chained, mine_group, mine_seen, owned, owned_keep}
 
 module _ {K : Type 0} (before : K → K → Bool) (top : Item K) (m : Memory K) (w : World K) (own : Head → Owner) (related : Related before top m w own) (s f : ℕ) (x₀ : Frame K) (there : slice_get m.frames f ≡ Some x₀)
     (mine : Mine s (own (heads.Frame f))) (ys : List (Item K)) (small : length ys ≤ 64) (a : Attributes K) where

@@ -1,5 +1,5 @@
 -- an ending: the seat leaves all waits, and what then waits for nobody is free
-use Rattle.std.proofs.Common.{◌≡◌, ℕ, zero, suc, ◌+◌, ◌<◌, ◌≤◌, Bool, true, false, cond, ◌||◌, eqb, ◌⊎◌, List, [], ◌∷◌, map, length, get_or, set, Some, None, Option, sym, refl, ap, ◌∙◌, subst, inl, inr, ⊎_elim, add-one, arith}
+use Rattle.std.proofs.Common.{◌≡◌, ℕ, zero, suc, ◌+◌, ◌<◌, Bool, true, false, cond, eqb, ◌⊎◌, List, [], ◌∷◌, length, get_or, set, Some, None, Option, sym, refl, ap, ◌∙◌, subst, inl, inr, ⊎_elim, add-one, arith}
 use Rattle.std.specs.List.{slice_get}
 use Rattle.std.proofs.lemmas.Bool.{cases_Bool, both_ways, eqb-true, eq-eqb, ne_eqb, or_left, or_right}
 use Rattle.std.proofs.lemmas.Bool.Decides.{nat_tests}
@@ -11,23 +11,21 @@ use Rattle.nodes.specs.declared.node.Head.{Head}
 use Rattle.nodes.specs.declared.node.Head.TheVariants as heads
 use Rattle.nodes.specs.declared.node.Item.{Item}
 use Rattle.nodes.specs.declared.node.Record.{Record}
-use Rattle.nodes.proofs.Ranges.{none_some, some_same}
+use Rattle.nodes.proofs.Ranges.{some_same}
 use Rattle.pool.specs.Free.{free_chain, freed}
 use Rattle.pool.specs.Waits.{Pools, anyone, state_set, waits_on, left_state, left_frame, leaves}
-use Rattle.bwtree.specs.declared.answer.Answer.TheVariants as answers
 use Rattle.bwtree.specs.declared.answer.End.{End}
 use Rattle.bwtree.specs.declared.seat.Phase.TheVariants as phases
 use Rattle.bwtree.specs.declared.seat.Seat.{Seat}
-use Rattle.bwtree.specs.Memory.{Memory, Outcome, at_phase, ended, idle, left, with_pools}
-use Rattle.laws.specs.Calls.{Did, Turn, at, ended as ended_answer, turn}
-use Rattle.laws.specs.Chains.{Chain, Base, On}
+use Rattle.bwtree.specs.Memory.{Memory, at_phase, ended, idle, left, with_pools}
+use Rattle.laws.specs.Calls.{Did, at, ended as ended_answer, turn}
+use Rattle.laws.specs.Chains.{Chain}
 use Rattle.laws.specs.Worlds.{World, Idle}
 use Rattle.refinement.specs.Resolved.{Store, Ground, store_of, deltas_of, carried, delta_over, Resolved, base, on}
 use Rattle.refinement.specs.Following.{Follows}
 use Rattle.refinement.proofs.Places.{nth_below, nth_map, nth_of_map, nth_set_same, nth_set_cases, map_set_same}
-use Rattle.refinement.specs.Relation.{busy, Owner, Free, Chained, Held, Group, waits_for, Reachable, Seen, states_of, Grouped, Related}
-use Rattle.refinement.proofs.Resolving.{resolved_weaker}
-use Rattle.refinement.proofs.Pooling.{restated, state_same, state_other, pooled, Handed, related_pooled}
+use Rattle.refinement.specs.Relation.{busy, Owner, Free, Chained, Held, Group, waits_for, Reachable, states_of, Grouped, Related}
+use Rattle.refinement.proofs.Pooling.{restated, state_same, state_other, pooled, related_pooled}
 use Rattle.refinement.proofs.Sitting.{related_idle}
 
 -- ---- waits

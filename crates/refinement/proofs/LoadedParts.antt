@@ -30,4 +30,4 @@ module _ {K : Type 0} (before : K → K → Bool) where
   abbrev pub LoadedIndexFollows : Type 0
   LoadedIndexFollows =
       (z : Sizes) (m : Memory K) (es : List (Entry K)) → lawful_sizes z ≡ true → fits z m ≡ true → has_room z (length es) ≡ true → ascends before (map item_of es) ≡ true
-      → StandsFor (index_over m es) (start 1 (first_part es) (other_parts es)) (at_rest (leaves_for (length es)))
+      → StandsFor before (index_over m es) (start 1 (first_part es) (other_parts es)) (at_rest (leaves_for (length es)))

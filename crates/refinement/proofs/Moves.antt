@@ -1,5 +1,5 @@
 -- what a seat can still read and what it holds, after a change that leaves these alone
-use Rattle.std.proofs.Common.{◌≡◌, ℕ, ◌+◌, ◌<◌, ◌≤◌, Bool, true, false, cond, eqb, ◌⊎◌, List, [], ◌∷◌, length, Some, None, Option, sym, refl, ap, ◌∙◌, subst, inl, inr, ⊎_elim, arith}
+use Rattle.std.proofs.Common.{◌≡◌, ℕ, ◌<◌, Bool, true, List, length, Some, None, Option, refl, ◌∙◌, arith}
 use Rattle.std.specs.List.{slice_get}
 use Rattle.nodes.specs.declared.node.Delta.{Delta}
 use Rattle.nodes.specs.declared.node.Head.{Head}

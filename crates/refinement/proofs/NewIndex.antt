@@ -1,5 +1,5 @@
 -- a new index is the index of no entries
-use Rattle.std.proofs.Common.{◌≡◌, Bool, true, ◌&&◌, leb, [], refl}
+use Rattle.std.proofs.Common.{arith, ◌≡◌, Bool, true, [], refl}
 use Rattle.bwtree.specs.declared.sizes.Sizes.{Sizes}
 use Rattle.bwtree.specs.Steps.{lawful_sizes}
 use Rattle.index.specs.Loads.{has_room}

@@ -1,14 +1,13 @@
 -- lists read at a place after a write, item arrays after a frame was filled, and the search for a free place
-use Rattle.std.proofs.Common.{◌≡◌, ℕ, zero, suc, ◌+◌, ◌*◌, ◌<◌, ◌≤◌, Bool, true, false, cond, eqb, leb, ◌⊎◌, List, [], ◌∷◌, map, length, get_or, take, drop, set, Some, None, Option, sym, refl, ap, ◌∙◌, subst, inl, inr, ⊎_elim, arith, length-set}
+use Rattle.std.proofs.Common.{◌≡◌, ℕ, zero, suc, ◌+◌, ◌<◌, ◌≤◌, Bool, true, false, eqb, ◌⊎◌, List, [], ◌∷◌, map, length, take, drop, set, Some, None, Option, sym, refl, ap, ◌∙◌, subst, inl, inr, ⊎_elim, arith, length-set}
 use Rattle.std.specs.List.{slice_get}
 use Rattle.std.proofs.lemmas.Bool.{cases_Bool, both_ways, eqb-true, eq-eqb, ne_eqb}
 use Rattle.std.proofs.lemmas.Bool.Decides.{nat_tests}
 use Rattle.nodes.specs.declared.node.Head.{Head}
 use Rattle.nodes.specs.declared.node.Head.TheVariants as heads
 use Rattle.nodes.specs.declared.node.Item.{Item}
-use Rattle.nodes.specs.Build.{puts, put_at}
-use Rattle.nodes.specs.Chains.{bind}
-use Rattle.nodes.specs.Frames.{item_at, items_from}
+use Rattle.nodes.specs.Build.{puts}
+use Rattle.nodes.specs.Frames.{items_from}
 use Rattle.nodes.specs.Items.{or_else}
 use Rattle.nodes.proofs.Ranges.{none_some, some_same}
 use Rattle.nodes.proofs.Writes.{puts_other}

@@ -1,8 +1,7 @@
 -- a change of flags, of one frame's state and of owners, where chains stay as they are
-use Rattle.std.proofs.Common.{◌≡◌, ℕ, ◌+◌, ◌*◌, ◌<◌, ◌≤◌, Bool, true, false, cond, eqb, ◌⊎◌, List, [], ◌∷◌, map, length, get_or, set, Some, None, Option, sym, refl, ap, ◌∙◌, subst, inl, inr, ⊎_elim, arith, length-set}
+use Rattle.std.proofs.Common.{◌≡◌, ℕ, ◌*◌, Bool, true, false, eqb, List, length, set, Some, Option, sym, refl, ap, ◌∙◌, subst, ⊎_elim, arith, length-set}
 use Rattle.std.specs.List.{slice_get}
-use Rattle.std.proofs.lemmas.Bool.{cases_Bool, both_ways, eqb-true, eq-eqb, ne_eqb}
-use Rattle.nodes.specs.declared.node.Attributes.{Attributes}
+use Rattle.std.proofs.lemmas.Bool.{both_ways, ne_eqb}
 use Rattle.nodes.specs.declared.node.Delta.{Delta}
 use Rattle.nodes.specs.declared.node.Frame.{Frame}
 use Rattle.nodes.specs.declared.node.FrameState.{FrameState}
@@ -11,14 +10,14 @@ use Rattle.nodes.specs.declared.node.Head.{Head}
 use Rattle.nodes.specs.declared.node.Head.TheVariants as heads
 use Rattle.nodes.specs.declared.node.Item.{Item}
 use Rattle.nodes.specs.declared.node.Record.{Record}
-use Rattle.pool.specs.Waits.{Pools, with_state}
+use Rattle.pool.specs.Waits.{with_state}
 use Rattle.bwtree.specs.declared.seat.Seat.{Seat}
 use Rattle.bwtree.specs.Memory.{Memory, with_pools}
 use Rattle.laws.specs.Chains.{Chain}
 use Rattle.laws.specs.Worlds.{World}
-use Rattle.refinement.specs.Resolved.{Store, Ground, Leaf, Root, store_of, deltas_of, all_attributes, Framed, Resolved}
+use Rattle.refinement.specs.Resolved.{Store, Ground, store_of, deltas_of, all_attributes, Framed, Resolved}
 use Rattle.refinement.proofs.Places.{nth_set_other, nth_set_same, nth_set_cases, nth_map, length_map, map_set, map_set_same}
-use Rattle.refinement.specs.Relation.{busy, Owner, Free, Chained, Held, Group, waits_for, Reachable, Seen, states_of, View, view, SlotAs, SeatAs, Grouped, Sized, Related}
+use Rattle.refinement.specs.Relation.{busy, Owner, Free, Chained, Held, Group, waits_for, Reachable, Seen, states_of, view, Grouped, Related}
 use Rattle.refinement.proofs.Moves.{Kept, seat_kept, slot_kept}
 use Rattle.refinement.proofs.Resolving.{resolved_weaker}
 

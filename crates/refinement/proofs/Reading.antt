@@ -1,42 +1,35 @@
 -- begin, root read, root walk and leaf read: memory follows the index without memory
-use Rattle.std.proofs.Common.{◌≡◌, ℕ, zero, suc, ◌+◌, ◌<◌, ◌≤◌, Bool, true, false, cond, eqb, ◌⊎◌, List, [], ◌∷◌, length, Some, None, Option, sym, refl, ap, ◌∙◌, subst, inl, inr, ⊎_elim, arith}
+use Rattle.std.proofs.Common.{◌≡◌, ℕ, zero, suc, ◌<◌, ◌≤◌, Bool, true, false, cond, eqb, List, length, Some, None, Option, sym, refl, ap, ◌∙◌, subst, arith}
 use Rattle.std.specs.List.{slice_get}
-use Rattle.std.proofs.lemmas.Bool.{both_ways, cases_Bool, eq-eqb, eqb-true, ne_eqb}
+use Rattle.std.proofs.lemmas.Bool.{both_ways, eq-eqb, ne_eqb}
 use Rattle.nodes.specs.declared.node.Attributes.{Attributes}
 use Rattle.nodes.specs.declared.node.Delta.{Delta}
-use Rattle.nodes.specs.declared.node.Frame.{Frame}
-use Rattle.nodes.specs.declared.node.FrameState.{FrameState}
 use Rattle.nodes.specs.declared.node.Head.{Head}
 use Rattle.nodes.specs.declared.node.Head.TheVariants as heads
 use Rattle.nodes.specs.declared.node.Item.{Item}
 use Rattle.nodes.specs.declared.node.Kind.{Kind}
 use Rattle.nodes.specs.declared.node.Kind.TheVariants as kinds
-use Rattle.nodes.specs.declared.node.Record.{Record}
 use Rattle.nodes.specs.declared.node.Slot.{Slot}
-use Rattle.nodes.specs.declared.frame.Separators.{Separators}
 use Rattle.nodes.specs.Chains.{attributes_of as attributes_in, bind}
 use Rattle.nodes.specs.Items.{last_not_after}
-use Rattle.nodes.proofs.Ranges.{none_some, some_same}
-use Rattle.bwtree.specs.declared.answer.Answer.TheVariants as answers
-use Rattle.bwtree.specs.declared.seat.Phase.{Phase}
+use Rattle.nodes.proofs.Ranges.{none_some}
 use Rattle.bwtree.specs.declared.seat.Phase.TheVariants as phases
 use Rattle.bwtree.specs.declared.seat.Request.{Request}
 use Rattle.bwtree.specs.declared.seat.Request.TheVariants as requests
 use Rattle.bwtree.specs.declared.seat.Seat.{Seat}
-use Rattle.bwtree.specs.Memory.{Memory, Outcome, at_phase, goes, head_in, set_seat}
-use Rattle.bwtree.specs.Swaps.{same_head}
+use Rattle.bwtree.specs.Memory.{Memory, goes, head_in}
 use Rattle.bwtree.specs.Walks.{key_of, better, slot_of, beyond, separator_at}
 use Rattle.bwtree.specs.Walks.{after_root_read as after_root_in, after_leaf_read as after_leaf_in, best_after as best_in, root_read as root_read_in, root_look as root_look_in, root_walk as root_walk_in, leaf_found as leaf_found_in, leaf_read as leaf_read_in}
-use Rattle.laws.specs.Acts.{Act, after_root_read, after_leaf_read, best_after, crosses, leaf_found, leaf_read, root_look, root_walk}
+use Rattle.laws.specs.Acts.{after_root_read, after_leaf_read, best_after, crosses, leaf_found, leaf_read, root_look, root_walk}
 use Rattle.laws.specs.Acts.{Goes, Reads}
-use Rattle.laws.specs.Calls.{Turn, perform}
+use Rattle.laws.specs.Calls.{perform}
 use Rattle.laws.specs.Chains.{Chain, Base, On, attributes_of, replay}
 use Rattle.laws.specs.Theorem.{impossible}
-use Rattle.laws.specs.Worlds.{Node, Phase as Place, RootWalk, LeafRead, Seat as Worker, World, find, same_stamp, unchanged}
-use Rattle.refinement.specs.Resolved.{Store, Ground, Leaf, Root, store_of, laid, carried, Framed, Resolved, base, on}
+use Rattle.laws.specs.Worlds.{Node, World, find}
+use Rattle.refinement.specs.Resolved.{Store, Leaf, Root, store_of, carried, Resolved, base, on}
 use Rattle.refinement.specs.Following.{Follows, Measured}
 use Rattle.refinement.proofs.Places.{head_itself, nth_below}
-use Rattle.refinement.specs.Relation.{Owner, Chained, Seen, head_at, View, view, Best, nothing, separator, Fitting, Snapshot, SlotAs, empty, full, hidden, PhaseAs, root_read, leaf_read as at_leaf_read, root_walk as at_root_walk, leaf_walk, build, root_build, SeatAs, Related}
+use Rattle.refinement.specs.Relation.{Owner, Chained, Seen, head_at, view, Best, nothing, separator, Snapshot, SlotAs, empty, full, hidden, PhaseAs, leaf_read as at_leaf_read, root_walk as at_root_walk, leaf_walk, build, root_build, Related}
 use Rattle.refinement.proofs.Resolving.{resolved_weaker, record_read, frame_read, attributes_read, separators_read}
 use Rattle.refinement.proofs.Sitting.{chained_seen, follows_by, follows_goes}
 

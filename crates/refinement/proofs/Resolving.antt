@@ -1,8 +1,7 @@
 -- what the rules read at a head that resolves to a chain is what the chain says
-use Rattle.std.proofs.Common.{◌≡◌, ℕ, zero, suc, ◌+◌, ◌*◌, ◌<◌, ◌≤◌, Bool, true, false, cond, not, ◌&&◌, eqb, leb, ◌⊎◌, List, [], ◌∷◌, map, length, drop, set, Some, None, Option, sym, refl, ap, ◌∙◌, subst, inl, inr, ⊎_elim, add-one, arith, length-set}
+use Rattle.std.proofs.Common.{◌≡◌, ℕ, suc, ◌+◌, ◌≤◌, Bool, true, false, cond, eqb, List, ◌∷◌, length, drop, Some, None, Option, sym, refl, ap, ◌∙◌, subst, add-one}
 use Rattle.std.specs.List.{slice_get}
-use Rattle.std.proofs.lemmas.Bool.{cases_Bool, both_ways, cond_both, eqb-true, eq-eqb, le-leb, ne_eqb}
-use Rattle.std.proofs.lemmas.Bool.Decides.{nat_tests}
+use Rattle.std.proofs.lemmas.Bool.{eq-eqb, le-leb, ne_eqb}
 use Rattle.keys.specs.Order.{same_key}
 use Rattle.nodes.specs.declared.node.Attributes.{Attributes}
 use Rattle.nodes.specs.declared.node.Delta.{Delta}
@@ -13,17 +12,17 @@ use Rattle.nodes.specs.declared.node.Item.{Item}
 use Rattle.nodes.specs.declared.node.Kind.{Kind}
 use Rattle.nodes.specs.declared.node.Kind.TheVariants as kinds
 use Rattle.nodes.specs.declared.node.Record.{Record}
-use Rattle.nodes.specs.Build.{built, in_frame, items_of, replay_at, source_of}
-use Rattle.nodes.specs.Chains.{applied, attributes_of, bind, deltas_from, frame_under, replay as replay_over}
-use Rattle.nodes.specs.Frames.{found_in_frame, in_arrays, items_from, items_in_frame, place_of, separators_in_frame, start_of}
+use Rattle.nodes.specs.Build.{built, in_frame, items_of, replay_at}
+use Rattle.nodes.specs.Chains.{applied, attributes_of, deltas_from, frame_under, replay as replay_over}
+use Rattle.nodes.specs.Frames.{in_arrays, separators_in_frame}
 use Rattle.nodes.specs.Items.{ascends, last_not_after, lookup}
 use Rattle.nodes.proofs.Ranges.{some_same}
 use Rattle.bwtree.specs.declared.walk.Look.{Look}
 use Rattle.bwtree.specs.declared.walk.Look.TheVariants as looks
 use Rattle.bwtree.specs.Memory.{Memory}
 use Rattle.bwtree.specs.Walks.{look_at, look_delta, look_frame}
-use Rattle.laws.specs.Chains.{Chain, Base, On, changed, look, replay}
-use Rattle.refinement.specs.Resolved.{Store, Ground, Leaf, Root, store_of, level_of, laid, Admits, carried, delta_over, Framed, Resolved, base, on}
+use Rattle.laws.specs.Chains.{Chain, changed, look, replay}
+use Rattle.refinement.specs.Resolved.{Store, Ground, Leaf, Root, store_of, level_of, laid, carried, delta_over, Framed, Resolved, base, on}
 use Rattle.refinement.proofs.Places.{nth_of_map}
 
 module _ {K : Type 0} where

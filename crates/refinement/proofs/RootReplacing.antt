@@ -6,7 +6,6 @@ use Rattle.nodes.specs.declared.node.Head.TheVariants as heads
 use Rattle.nodes.specs.declared.node.Item.{Item}
 use Rattle.nodes.specs.declared.node.Slot.{Slot}
 use Rattle.bwtree.specs.declared.answer.End.TheVariants as ends
-use Rattle.bwtree.specs.declared.seat.Phase.TheVariants as phases
 use Rattle.bwtree.specs.declared.seat.Seat.{Seat}
 use Rattle.bwtree.specs.Memory.{Memory, idle, won}
 use Rattle.bwtree.specs.Swaps.{swap as swap_in, swapped}

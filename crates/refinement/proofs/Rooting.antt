@@ -3,7 +3,6 @@ use Rattle.std.proofs.Common.{◌≡◌, ℕ, ◌*◌, ◌<◌, Bool, true, fals
 use Rattle.std.specs.List.{slice_get}
 use Rattle.std.proofs.lemmas.Bool.{ne_eqb}
 use Rattle.nodes.specs.declared.node.Frame.{Frame}
-use Rattle.nodes.specs.declared.node.FrameState.TheVariants as states
 use Rattle.nodes.specs.declared.node.Head.{Head}
 use Rattle.nodes.specs.declared.node.Head.TheVariants as heads
 use Rattle.nodes.specs.declared.node.Item.{Item}

@@ -125,7 +125,7 @@ module _ {K : Type 0} (before : K → K → Bool) (law : Lawful K before) (z : S
 
       step_here : Followed m w (calls.Step s)
       step_here =
-          let p = seated_possible law w k.invariant (granting m it) (calls.Step s) in
+          let p = seated_possible law w k.invariant (granting m it) (without_memory (calls.Step s)) in
           let f = steps_follow before law top m w k.own k.related (measured law top m w k.own k.invariant k.related (slots_few z m k.lengths lawful)) s it at_s p in
           present (calls.Step s) refl f.outcome (rw (k.lengths, e, at_s) f.is) f.owner f.related f.answer
           (ap (did_at m) at_s ∙ does_same before top m w k.own s (granting m it) (w.seats s).request it.phase (w.seats s).phase (k.related.seats s it at_s).phase (w.seats s).request p)

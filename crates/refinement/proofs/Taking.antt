@@ -1,7 +1,7 @@
 -- a record is taken and filled, or given back
-use Rattle.std.proofs.Common.{◌≡◌, ℕ, ◌+◌, ◌*◌, ◌<◌, ◌≤◌, Bool, true, false, cond, eqb, ◌⊎◌, List, [], ◌∷◌, length, set, Some, None, Option, sym, refl, ap, ◌∙◌, subst, inl, inr, ⊎_elim, arith, length-set}
+use Rattle.std.proofs.Common.{◌≡◌, ℕ, Bool, true, false, cond, eqb, ◌⊎◌, List, set, Some, Option, sym, refl, ap, ◌∙◌, subst, inl, inr, ⊎_elim, arith, length-set}
 use Rattle.std.specs.List.{slice_get}
-use Rattle.std.proofs.lemmas.Bool.{cases_Bool, both_ways, cond_both, eqb-true, eq-eqb, ne_eqb}
+use Rattle.std.proofs.lemmas.Bool.{both_ways, cond_both, eq-eqb, ne_eqb}
 use Rattle.nodes.specs.declared.node.Delta.{Delta}
 use Rattle.nodes.specs.declared.node.FrameState.{FrameState}
 use Rattle.nodes.specs.declared.node.Head.{Head}
@@ -13,11 +13,10 @@ use Rattle.bwtree.specs.Memory.{Memory, set_record}
 use Rattle.bwtree.specs.Swaps.{same_head}
 use Rattle.laws.specs.Chains.{Chain}
 use Rattle.laws.specs.Worlds.{World}
-use Rattle.refinement.specs.Resolved.{Store, Ground, Leaf, Root, store_of, deltas_of, Framed, Resolved, base, on}
+use Rattle.refinement.specs.Resolved.{Ground, store_of, Framed, Resolved, base, on}
 use Rattle.refinement.proofs.Places.{nth_set_other, nth_set_same, nth_set_cases, nth_map, map_set, head_true, head_itself}
-use Rattle.refinement.specs.Relation.{busy, Owner, Free, Chained, Held, Group, Reachable, Seen, states_of, View, view, SeatAs, Grouped, Sized, Related}
+use Rattle.refinement.specs.Relation.{busy, Owner, Free, Chained, Held, Group, Reachable, states_of, view, Related}
 use Rattle.refinement.proofs.Moves.{Kept, seat_kept, slot_kept}
-use Rattle.refinement.proofs.Resolving.{resolved_weaker}
 
 -- ---- owners
 

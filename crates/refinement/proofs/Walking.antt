@@ -1,10 +1,9 @@
 -- leaf walk: memory follows the index without memory
-use Rattle.std.proofs.Common.{◌≡◌, ℕ, zero, suc, ◌+◌, ◌-◌, ◌^◌, ◌<◌, ◌≤◌, Bool, true, false, cond, ◌&&◌, eqb, ltb, leb, ◌⊎◌, List, [], ◌∷◌, length, Some, None, Option, sym, refl, ap, ◌∙◌, subst, inl, inr, ⊎_elim, arith}
+use Rattle.std.proofs.Common.{◌≡◌, ℕ, suc, ◌-◌, ◌^◌, ◌≤◌, Bool, true, false, cond, leb, List, [], ◌∷◌, length, Some, None, Option, sym, refl, ap, ◌∙◌, subst, inl, arith}
 use Rattle.std.specs.List.{slice_get}
-use Rattle.std.proofs.lemmas.Bool.{both_ways, cases_Bool, cond_both, leb-false, lt-ltb}
+use Rattle.std.proofs.lemmas.Bool.{both_ways, cond_both, leb-false, lt-ltb}
 use Rattle.keys.specs.Order.{same_key}
 use Rattle.nodes.specs.declared.node.Attributes.{Attributes}
-use Rattle.nodes.specs.declared.node.Delta.{Delta}
 use Rattle.nodes.specs.declared.node.Head.{Head}
 use Rattle.nodes.specs.declared.node.Head.TheVariants as heads
 use Rattle.nodes.specs.declared.node.Item.{Item}
@@ -13,7 +12,7 @@ use Rattle.nodes.specs.declared.node.Kind.TheVariants as kinds
 use Rattle.nodes.specs.declared.node.Record.{Record}
 use Rattle.nodes.specs.Chains.{attributes_of as attributes_in, bind}
 use Rattle.nodes.specs.Items.{insert, remove}
-use Rattle.nodes.proofs.Ranges.{none_some, some_same}
+use Rattle.nodes.proofs.Ranges.{none_some}
 use Rattle.pool.specs.Free.{next_free}
 use Rattle.bwtree.specs.declared.answer.End.TheVariants as ends
 use Rattle.bwtree.specs.declared.seat.Phase.TheVariants as phases
@@ -21,25 +20,24 @@ use Rattle.bwtree.specs.declared.seat.Request.{Request}
 use Rattle.bwtree.specs.declared.seat.Request.TheVariants as requests
 use Rattle.bwtree.specs.declared.seat.Seat.{Seat}
 use Rattle.bwtree.specs.declared.walk.Look.{Look}
-use Rattle.bwtree.specs.declared.walk.Look.TheVariants as looks
 use Rattle.bwtree.specs.declared.walk.Verdict.{Verdict}
 use Rattle.bwtree.specs.declared.walk.Verdict.TheVariants as verdicts
 use Rattle.bwtree.specs.Deltas.{attributes_on, delta_on}
-use Rattle.bwtree.specs.Memory.{Memory, Outcome, at_phase, goes, set_record, with_cursors}
+use Rattle.bwtree.specs.Memory.{Memory}
 use Rattle.bwtree.specs.Walks.{key_of, verdict, look_at, put, record_cursor, judged as judged_in, looked as looked_in, leaf_walk as leaf_walk_in}
-use Rattle.laws.specs.Acts.{Act, Goes, Ends, puts, judged, looked, leaf_walk}
-use Rattle.laws.specs.Calls.{Turn, perform}
-use Rattle.laws.specs.Chains.{Chain, Base, On, attributes_of, changed, look, replay}
+use Rattle.laws.specs.Acts.{Goes, Ends, judged, looked, leaf_walk}
+use Rattle.laws.specs.Calls.{perform}
+use Rattle.laws.specs.Chains.{Chain, On, attributes_of, changed, look, replay}
 use Rattle.laws.specs.Theorem.{impossible}
 use Rattle.laws.specs.Worlds.{Granted, Node, Swap, World}
-use Rattle.refinement.specs.Resolved.{Store, Ground, Leaf, Root, store_of, carried, delta_over, Resolved}
+use Rattle.refinement.specs.Resolved.{Leaf, store_of, carried, delta_over, Resolved}
 use Rattle.refinement.proofs.Depths.{depth_bound}
 use Rattle.refinement.proofs.Leaving.{follows_ended}
-use Rattle.refinement.proofs.Moves.{Kept, snapshot_kept}
+use Rattle.refinement.proofs.Moves.{snapshot_kept}
 use Rattle.refinement.specs.Following.{Follows, is_there}
 use Rattle.refinement.proofs.Places.{next_free_lem}
 use Rattle.refinement.proofs.Reading.{carried_leaf, not_impossible}
-use Rattle.refinement.specs.Relation.{Owner, Free, Held, Seen, View, view, Snapshot, PhaseAs, leaf_walk as at_leaf_walk, putting, Related}
+use Rattle.refinement.specs.Relation.{Owner, Held, Seen, view, Snapshot, leaf_walk as at_leaf_walk, putting, Related}
 use Rattle.refinement.proofs.Resolving.{Alike, decided, onward, attributes_read, look_read}
 use Rattle.refinement.proofs.Sitting.{follows_by, follows_goes}
 use Rattle.refinement.proofs.Taking.{filled, taken, filled_here, kept_filled, related_filled, owned_same, free_held}

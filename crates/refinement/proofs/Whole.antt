@@ -1,27 +1,25 @@
 -- the theorem, put together: an index over lent memory behaves as a plain map
-use Rattle.std.proofs.Common.{◌≡◌, ℕ, ◌+◌, ◌-◌, ◌<◌, ◌≤◌, Bool, true, false, cond, List, [], ◌∷◌, map, length, set, Some, None, Option, sym, refl, ap, ◌∙◌, subst, zero-add, arith, length-set}
+use Rattle.std.proofs.Common.{◌≡◌, ℕ, ◌-◌, ◌<◌, ◌≤◌, Bool, true, false, List, [], ◌∷◌, map, length, set, Some, sym, refl, ap, ◌∙◌, subst, zero-add, arith, length-set}
 use Rattle.std.specs.List.{slice_get, AllByRecursion as All}
 use Rattle.std.proofs.lemmas.Bool.{lt-ltb}
 use Rattle.keys.specs.Order.{Lawful}
 use Rattle.image.specs.declared.entry.Entry.{Entry}
-use Rattle.nodes.specs.declared.node.Head.{Head}
 use Rattle.nodes.specs.declared.node.Item.{Item}
 use Rattle.nodes.specs.Build.{puts}
 use Rattle.nodes.specs.Items.{ascends, lookup}
 use Rattle.nodes.proofs.Items.{ascending_from}
 use Rattle.nodes.proofs.Ranges.{some_same}
 use Rattle.bwtree.specs.declared.call.Call.{Call}
-use Rattle.bwtree.specs.declared.seat.Request.{Request}
 use Rattle.bwtree.specs.declared.seat.Seat.{Seat}
 use Rattle.bwtree.specs.declared.sizes.Sizes.{Sizes}
 use Rattle.bwtree.specs.Calls.{call as call_in}
 use Rattle.bwtree.specs.Memory.{Memory, Outcome}
 use Rattle.bwtree.specs.Reports.{capped}
-use Rattle.bwtree.specs.Steps.{begin_at, fits, lawful_sizes, step_for}
+use Rattle.bwtree.specs.Steps.{fits, lawful_sizes}
 use Rattle.index.specs.Images.{entries_held, entry_of}
 use Rattle.index.specs.Loads.{frame_at, fresh_seat, has_room, index_over, item_of, leaves_for, separators_from, slot_at}
 use Rattle.pool.specs.Free.{freed}
-use Rattle.laws.specs.Calls.{Event, Made, after, call, run}
+use Rattle.laws.specs.Calls.{Event, after, call, run}
 use Rattle.laws.specs.Histories.{Between, InOrder, Opens, Operation, Placed, Timed, ended_operations, failed_by, installed_by_others, operations, weigh}
 use Rattle.laws.specs.Maps.{Gives, Holds, Plain, asked, fill}
 use Rattle.laws.specs.Theorem.{ActsAsMap, Along, all_items, changing, impossible, start}
@@ -30,13 +28,11 @@ use Rattle.laws.proofs.Acting.{acts_as_map}
 use Rattle.laws.proofs.Leaves.{along, contents}
 use Rattle.laws.proofs.Starting.{start_invariant}
 use Rattle.laws.proofs.Unchanged.{call_same}
-use Rattle.refinement.specs.Accounts.{Accounted}
 use Rattle.refinement.specs.Beginning.{StandsFor, at_rest}
 use Rattle.refinement.proofs.LoadedParts.{first_part, other_parts}
 use Rattle.refinement.proofs.Granting.{telling}
-use Rattle.refinement.specs.Relation.{Owner, Related}
 use Rattle.refinement.specs.Service.{installed_by, without_memory}
-use Rattle.refinement.specs.Stands.{IndexStands, Stands, Start, TrueReport, map_of}
+use Rattle.refinement.specs.Stands.{IndexStands, Stands, TrueReport, map_of}
 use Rattle.refinement.proofs.Accounting.{accounted_start}
 use Rattle.refinement.proofs.Along.{entries_are}
 use Rattle.refinement.proofs.Calling.{four_seats}

@@ -1,5 +1,5 @@
 -- the relation between the memory of an index and the index without memory
-use Rattle.std.specs.Prelude.{◌≡◌, ℕ, ◌*◌, ◌<◌, ◌≤◌, Bool, true, false, List, [], ◌∷◌, map, length, Some, None, Option, ◌==◌, slice_index_or}
+use Rattle.std.specs.Prelude.{◌≡◌, ℕ, ◌*◌, ◌<◌, ◌≤◌, Bool, true, false, List, map, length, Some, None, Option, ◌==◌, slice_index_or}
 use Rattle.std.specs.List.{slice_get}
 use Rattle.nodes.specs.declared.node.Delta.{Delta}
 use Rattle.nodes.specs.declared.node.Frame.{Frame}
@@ -18,10 +18,9 @@ use Rattle.bwtree.specs.declared.seat.Phase.TheVariants as phases
 use Rattle.bwtree.specs.declared.seat.Request.{Request}
 use Rattle.bwtree.specs.declared.seat.Request.TheVariants as requests
 use Rattle.bwtree.specs.declared.seat.Seat.{Seat}
-use Rattle.bwtree.specs.Deltas.{cut}
 use Rattle.bwtree.specs.Memory.{Memory}
 use Rattle.bwtree.specs.Swaps.{unchanged as same_as}
-use Rattle.laws.specs.Chains.{Chain, Base, On, attributes_of, consolidated, replay, upper}
+use Rattle.laws.specs.Chains.{Chain, Base, On, consolidated, replay, upper}
 use Rattle.laws.specs.Worlds.{Node, Phase as Place, Idle, RootRead, RootWalk, LeafRead, LeafWalk, Build, RootBuild, Swap, RootSwap, SplitSwap, PostRead, PostSwap, Seat as Worker, World, find, unchanged}
 use Rattle.refinement.specs.Resolved.{Store, Ground, Leaf, Root, store_of, laid, carried, delta_over, Framed, Resolved}
 
