@@ -1,5 +1,5 @@
 -- lists of items whose keys ascend or descend, and what each delta does to them
-use Rattle.std.proofs.Common.{◌≡◌, ℕ, Bool, true, false, cond, ◌⊎◌, List, [], ◌∷◌, ◌++◌, Some, None, Option, sym, refl, ap, ◌∙◌, subst, inl, inr, arith}
+use Rattle.std.proofs.Common.{◌≡◌, ℕ, Bool, true, false, cond, List, [], ◌∷◌, ◌++◌, Some, None, Option, sym, refl, ap, ◌∙◌, subst, inl, inr, arith}
 use Rattle.keys.proofs.Laws.{asymmetric, before_not_after, not_after_before, same_equal, same_itself}
 use Rattle.keys.specs.Order.{Lawful, same_key}
 use Rattle.std.proofs.ByRecursion.{All-weaker}

@@ -1,5 +1,5 @@
 -- a merge picks the keys of the replay in turn, the greatest first
-use Rattle.std.proofs.Common.{◌≡◌, ℕ, Bool, true, false, cond, not, ◌⊎◌, List, [], ◌∷◌, Some, None, Option, sym, refl, subst, inl, inr, arith}
+use Rattle.std.proofs.Common.{◌≡◌, ℕ, Bool, true, false, cond, not, List, [], ◌∷◌, Some, None, Option, sym, refl, subst, inl, inr, arith}
 use Rattle.keys.proofs.Laws.{asymmetric, same_itself}
 use Rattle.keys.specs.Order.{Lawful}
 use Rattle.std.proofs.lemmas.Bool.{cases_Bool}

@@ -1,5 +1,5 @@
 -- what a pass over a chain has seen says of the replay
-use Rattle.std.proofs.Common.{◌≡◌, ℕ, Bool, true, false, cond, ◌&&◌, ◌⊎◌, List, [], ◌∷◌, Some, None, Option, sym, refl, subst, inl, inr, arith}
+use Rattle.std.proofs.Common.{◌≡◌, ℕ, Bool, true, false, cond, ◌&&◌, List, [], ◌∷◌, Some, None, Option, sym, refl, subst, inl, inr, arith}
 use Rattle.keys.proofs.Laws.{before_not_after, same_equal, same_itself}
 use Rattle.keys.specs.Order.{Lawful, same_key}
 use Rattle.std.proofs.lemmas.Bool.{and_parts, cases_Bool}

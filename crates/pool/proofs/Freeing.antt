@@ -1,5 +1,5 @@
 -- freeing a chain, one record further
-use Rattle.std.proofs.Common.{◌≡◌, ℕ, zero, suc, ◌-◌, ◌<◌, List, set, Some, None, Option, sym, refl, ap, ◌∙◌, subst, sub-one, arith}
+use Rattle.std.proofs.Common.{◌≡◌, ℕ, zero, suc, ◌-◌, ◌<◌, List, set, Some, None, sym, refl, ap, ◌∙◌, sub-one, arith}
 use Rattle.std.specs.List.{slice_get}
 use Rattle.nodes.specs.declared.node.Head.{Head}
 use Rattle.nodes.specs.declared.node.Head.TheVariants as heads

@@ -1,5 +1,5 @@
 -- what a replaced chain waits for, and who leaves the waits
-use Rattle.std.specs.Prelude.{ℕ, zero, suc, Bool, true, false, cond, ◌||◌, List, [], ◌∷◌, Some, None, Option, slice_index_or, slice_set}
+use Rattle.std.specs.Prelude.{ℕ, zero, suc, Bool, true, false, ◌||◌, List, Some, None, Option, slice_index_or, slice_set}
 use Rattle.std.specs.List.{slice_get}
 use Rattle.nodes.specs.declared.node.Frame.{Frame}
 use Rattle.nodes.specs.declared.node.FrameState.{FrameState}
