@@ -2,7 +2,7 @@
 use Rattle.std.proofs.Common.{ℕ, zero, suc, ◌/◌, ◌%◌, ◌^◌, ◌<◌, ◌≤◌, List, [], ◌∷◌, ◌++◌, length, mod-lt, mul_comm, div-lt_iff_lt-mul, pow-suc, arith}
 use native.Mathlib.Nat.{one-le-pow}
 use Rattle.std.proofs.ByRecursion.{All-weaker}
-use Rattle.std.specs.List.{flat_map, AllByRecursion as All}
+use Rattle.std.specs.List.{flat_map, AllByRecursion}
 use Rattle.keys.specs.Bytes.{Bytes, big_endian}
 use Rattle.image.specs.declared.entry.Entry.{Entry}
 use Rattle.image.specs.Image.{image_of, key_forms, most_entries, value_forms}
@@ -11,7 +11,7 @@ bytes_append : (xs ys : List ℕ) → Bytes xs → Bytes ys → Bytes (xs ++ ys)
 bytes_append [] ys h g = g
 bytes_append (x ∷ xs) ys h g = (h.0, bytes_append xs ys h.1 g)
 
-bytes_joined : {X : Type 0} (f : X → List ℕ) (xs : List X) → All (λ x. Bytes (f x)) xs → Bytes (flat_map f xs)
+bytes_joined : {X : Type 0} (f : X → List ℕ) (xs : List X) → AllByRecursion (λ x. Bytes (f x)) xs → Bytes (flat_map f xs)
 bytes_joined f [] h = tt
 bytes_joined f (x ∷ xs) h = bytes_append (f x) (flat_map f xs) h.0 (bytes_joined f xs h.1)
 
@@ -25,7 +25,7 @@ bytes-big_endian (suc w) n h =
     (first, bytes-big_endian w (n % 256 ^ w) (mod-lt n some))
 
 pub image_bytes : {K : Type 0} (width : ℕ) (form : K → List ℕ) (es : List (Entry K)) → width ≤ 32 → length es ≤ most_entries
-    → All (λ e. Bytes (form e.key)) es → All (λ e. e.value < 2 ^ 64) es → Bytes (image_of width form es)
+    → AllByRecursion (λ e. Bytes (form e.key)) es → AllByRecursion (λ e. e.value < 2 ^ 64) es → Bytes (image_of width form es)
 image_bytes width form es narrow few keys values =
     bytes_append (big_endian 2 width) _ (bytes-big_endian 2 width (omega arith))
     (bytes_append (big_endian 2 (length es)) _ (bytes-big_endian 2 (length es) (omega arith))

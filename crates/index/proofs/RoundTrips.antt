@@ -1,7 +1,7 @@
 -- the round trips of images: the image of an index's entries loads again, and a loaded index has the image that it was loaded from
 use Rattle.std.proofs.Common.{◌≡◌, ℕ, ◌+◌, ◌≤◌, Bool, true, leb, ◌↔◌, List, [], ◌∷◌, map, length, is_ok, Some, None, Ok, Err, Option, Result, sym, refl, ap, ◌∙◌, arith}
 use Rattle.std.proofs.lemmas.Bool.{and_from, and_parts, cases_Bool, cond-true, leb-true}
-use Rattle.std.specs.List.{AllByRecursion as All}
+use Rattle.std.specs.List.{AllByRecursion}
 use Rattle.keys.specs.Bytes.{Bytes}
 use Rattle.keys.specs.Order.{Ascending, Lawful}
 use Rattle.image.specs.declared.entry.Entry.{Entry}
@@ -22,12 +22,12 @@ use Rattle.index.specs.Loads.{has_room, index_over, item_of, leaves_for, load, l
 -- ---- the order of entries
 
 module _ {K : Type 0} (before : K → K → Bool) where
-  keys_after_lem : (k : K) (es : List (Entry K)) → all_after before k (map item_of es) ≡ true → All (λ l. before k l ≡ true) (keys_of es)
+  keys_after_lem : (k : K) (es : List (Entry K)) → all_after before k (map item_of es) ≡ true → AllByRecursion (λ l. before k l ≡ true) (keys_of es)
   keys_after_lem k [] h = tt
   keys_after_lem k (e ∷ es) h =
       let u = and_parts (before k e.key) (all_after before k (map item_of es)) h in (u.0, keys_after_lem k es u.1)
 
-  items_after_lem : (k : K) (es : List (Entry K)) → All (λ l. before k l ≡ true) (keys_of es) → all_after before k (map item_of es) ≡ true
+  items_after_lem : (k : K) (es : List (Entry K)) → AllByRecursion (λ l. before k l ≡ true) (keys_of es) → all_after before k (map item_of es) ≡ true
   items_after_lem k [] h = refl
   items_after_lem k (e ∷ es) h = and_from _ _ h.0 (items_after_lem k es h.1)
 

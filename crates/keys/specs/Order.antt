@@ -1,5 +1,5 @@
 use Rattle.std.specs.Prelude.{◌≡◌, ℕ, Bool, true, false, cond, not, ◌&&◌, List, [], ◌∷◌, ◌==◌, nat_lt}
-use Rattle.std.specs.List.{AllByRecursion as All}
+use Rattle.std.specs.List.{AllByRecursion}
 
 -- the three laws of a kind of key, as one premise for definitions and proofs that take the order as a parameter
 pub record Lawful (K : Type 0) (before : K → K → Bool) : Type 0 where
@@ -18,4 +18,4 @@ pair_before a b c d = cond (nat_lt a c) true (cond (a == c) (nat_lt b d) false)
 -- each key stands before every later one
 abbrev pub Ascending : {K : Type 0} → (K → K → Bool) → List K → Type 0
 Ascending before [] = Unit {0}
-Ascending before (k ∷ ks) = All (λ l. before k l ≡ true) ks × Ascending before ks
+Ascending before (k ∷ ks) = AllByRecursion (λ l. before k l ≡ true) ks × Ascending before ks

@@ -1,6 +1,6 @@
 -- what each step may rely on when it is performed
 use Rattle.std.proofs.Common.{◌≡◌, ℕ, zero, suc, ◌<◌, ◌≤◌, Bool, true, false, cond, ◌||◌, eqb, ltb, leb, List, [], ◌∷◌, length, Some, None, Option, sym, refl, ap, ◌∙◌, subst, arith}
-use Rattle.std.specs.List.{slice_get, AllByRecursion as All}
+use Rattle.std.specs.List.{slice_get, AllByRecursion}
 use Rattle.std.proofs.lemmas.Bool.{leb-false, cases_Bool, both_ways, cond_both, eqb-true}
 use Rattle.std.proofs.lemmas.Bool.Decides.{nat_tests}
 use Rattle.keys.specs.Order.{Lawful, same_key}
@@ -156,7 +156,7 @@ module _ {K : Type 0} {before : K → K → Bool} (law : Lawful K before) (w : W
   root_read_lem (requests.Split k) = ((i.founded.leading, tt), λ n e. never e)
   root_read_lem requests.ConsolidateRoot = (root_now, λ n e. never e)
 
-  best_of : (k : K) (xs : List (Item K)) (o : Option (Item K)) → All (λ (x : Item K). Leads before w.leaves x.key x.value) xs → last_not_after before k xs ≡ o
+  best_of : (k : K) (xs : List (Item K)) (o : Option (Item K)) → AllByRecursion (λ (x : Item K). Leads before w.leaves x.key x.value) xs → last_not_after before k xs ≡ o
       → Best before w.leaves k o
   best_of k xs None a e = tt
   best_of k xs (Some x) a e = last_has law (λ (y : Item K). Leads before w.leaves y.key y.value) k xs x a e

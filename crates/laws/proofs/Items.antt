@@ -1,6 +1,6 @@
 -- ascending lists of items: look-up, insertion, deletion, cutting, appending
 use Rattle.std.proofs.Common.{◌≡◌, ℕ, zero, suc, ◌<◌, Bool, true, false, cond, List, [], ◌∷◌, ◌++◌, length, take, drop, Some, None, Option, sym, refl, ◌∙◌, subst, arith}
-use Rattle.std.specs.List.{slice_get, AllByRecursion as All}
+use Rattle.std.specs.List.{slice_get, AllByRecursion}
 use Rattle.std.proofs.ByRecursion.{All-append, All-weaker}
 use Rattle.std.proofs.lemmas.Bool.{both_ways, cond_both, and_from}
 use Rattle.keys.specs.Order.{Lawful, same_key}
@@ -26,7 +26,7 @@ some_injective a b e = cc
 module _ {K : Type 0} (before : K → K → Bool) where
   -- no key stands before a
   abbrev pub From : K → List (Item K) → Type 0
-  From a xs = All (λ (y : Item K). before y.key a ≡ false) xs
+  From a xs = AllByRecursion (λ (y : Item K). before y.key a ≡ false) xs
 
   -- keys that ascend pass the test that they do
   over_after : (k : K) (xs : List (Item K)) → Over before k xs → all_after before k xs ≡ true
@@ -38,20 +38,20 @@ module _ {K : Type 0} (before : K → K → Bool) where
   ascending_ascends (x ∷ xs) s = and_from (all_after before x.key xs) (ascends before xs) (over_after x.key xs s.0) (ascending_ascends xs s.1)
 
   -- what holds of the key and of each item's holds of each after an insertion
-  pub all_insert : (P : Item K → Type 0) (k : K) (v : ℕ) (xs : List (Item K)) → P (record { key = k; value = v }) → All P xs → All P (insert before k v xs)
+  pub all_insert : (P : Item K → Type 0) (k : K) (v : ℕ) (xs : List (Item K)) → P (record { key = k; value = v }) → AllByRecursion P xs → AllByRecursion P (insert before k v xs)
   all_insert P k v [] p a = (p, tt)
   all_insert P k v (x ∷ xs) p a =
-      cond_both (before k x.key) _ _ (All P) (λ _. (p, a))
-      (λ _. cond_both (before x.key k) _ _ (All P) (λ _. (a.0, all_insert P k v xs p a.1)) (λ _. (p, a.1)))
+      cond_both (before k x.key) _ _ (AllByRecursion P) (λ _. (p, a))
+      (λ _. cond_both (before x.key k) _ _ (AllByRecursion P) (λ _. (a.0, all_insert P k v xs p a.1)) (λ _. (p, a.1)))
 
-  pub all_remove : (P : Item K → Type 0) (k : K) (xs : List (Item K)) → All P xs → All P (remove before k xs)
+  pub all_remove : (P : Item K → Type 0) (k : K) (xs : List (Item K)) → AllByRecursion P xs → AllByRecursion P (remove before k xs)
   all_remove P k [] a = tt
-  all_remove P k (x ∷ xs) a = cond_both (same_key before k x.key) _ _ (All P) (λ _. a.1) (λ _. (a.0, all_remove P k xs a.1))
+  all_remove P k (x ∷ xs) a = cond_both (same_key before k x.key) _ _ (AllByRecursion P) (λ _. a.1) (λ _. (a.0, all_remove P k xs a.1))
 
-  pub all_below : (P : Item K → Type 0) (k : K) (xs : List (Item K)) → All P xs → All (λ (x : Item K). P x × (before x.key k ≡ true)) (below before k xs)
+  pub all_below : (P : Item K → Type 0) (k : K) (xs : List (Item K)) → AllByRecursion P xs → AllByRecursion (λ (x : Item K). P x × (before x.key k ≡ true)) (below before k xs)
   all_below P k [] a = tt
   all_below P k (x ∷ xs) a =
-      cond_both (before x.key k) _ _ (All (λ (y : Item K). P y × (before y.key k ≡ true))) (λ e. ((a.0, e), all_below P k xs a.1)) (λ _. tt)
+      cond_both (before x.key k) _ _ (AllByRecursion (λ (y : Item K). P y × (before y.key k ≡ true))) (λ e. ((a.0, e), all_below P k xs a.1)) (λ _. tt)
 
   pub lookup_append : (k : K) (xs ys : List (Item K)) → lookup before k (xs ++ ys) ≡ cond (is_none (lookup before k xs)) (lookup before k ys) (lookup before k xs)
   lookup_append k [] ys = refl
@@ -113,7 +113,7 @@ module _ {K : Type 0} {before : K → K → Bool} (law : Lawful K before) where
 
   -- ---- cutting before the item at a place
 
-  pub all_nth : (P : Item K → Type 0) (xs : List (Item K)) (n : ℕ) (x : Item K) → slice_get xs n ≡ Some x → All P xs → P x
+  pub all_nth : (P : Item K → Type 0) (xs : List (Item K)) (n : ℕ) (x : Item K) → slice_get xs n ≡ Some x → AllByRecursion P xs → P x
   all_nth P [] n x e a = absurd (none_some x e)
   all_nth P (y ∷ ys) zero x e a = rw (sym (some_injective y x e)) a.0
   all_nth P (y ∷ ys) (suc n) x e a = all_nth P ys n x e a.1
@@ -148,7 +148,7 @@ module _ {K : Type 0} {before : K → K → Bool} (law : Lawful K before) where
 
   -- ---- the last item that does not stand after a key
 
-  pub last_has : (P : Item K → Type 0) (k : K) (xs : List (Item K)) (x : Item K) → All P xs → last_not_after before k xs ≡ Some x → P x × (before k x.key ≡ false)
+  pub last_has : (P : Item K → Type 0) (k : K) (xs : List (Item K)) (x : Item K) → AllByRecursion P xs → last_not_after before k xs ≡ Some x → P x × (before k x.key ≡ false)
   last_has P k [] x a e = absurd (none_some x e)
   last_has P k (y ∷ ys) x a e = go (last_has P k ys x a.1) (before k y.key) refl (last_not_after before k ys) refl e
     where

@@ -1,6 +1,6 @@
 -- a step that is allowed keeps what holds of the world
 use Rattle.std.proofs.Common.{◌≡◌, ℕ, suc, ◌<◌, ◌≤◌, Bool, true, false, cond, eqb, ltb, List, [], ◌∷◌, ◌++◌, Some, None, Option, sym, refl, ap, ◌∙◌, subst, inl, inr, ⊎_elim, arith}
-use Rattle.std.specs.List.{AllByRecursion as All}
+use Rattle.std.specs.List.{AllByRecursion}
 use Rattle.std.proofs.ByRecursion.{All-weaker}
 use Rattle.std.proofs.lemmas.Bool.{cases_Bool, both_ways, cond_both, eqb-true, eq-eqb, ltb-true}
 use Rattle.std.proofs.lemmas.Bool.Decides.{nat_tests}
@@ -114,7 +114,7 @@ module _ {K : Type 0} (before : K → K → Bool) where
   root_grows : (w : World K) (c : Chain K) → Grows w (rooted w c)
   root_grows w c = record { clock = omega arith; leaf = λ n x e. record { now = x; is = e; low_is = refl; either = inl refl }; root = inr (omega arith) }
 
-  stamps_later : (w : World K) → All (λ (l : Node K). l.stamp < w.clock) w.leaves → All (λ (l : Node K). l.stamp < suc w.clock) w.leaves
+  stamps_later : (w : World K) → AllByRecursion (λ (l : Node K). l.stamp < w.clock) w.leaves → AllByRecursion (λ (l : Node K). l.stamp < suc w.clock) w.leaves
   stamps_later w a = All-weaker (λ (l : Node K). l.stamp < w.clock) (λ (l : Node K). l.stamp < suc w.clock) (λ l h. omega (arith, h)) w.leaves a
 
   root_founded : (w : World K) (c : Chain K) → Founded before w → Leading before w.leaves c → RootSound before c → Founded before (rooted w c)
@@ -157,7 +157,7 @@ module _ {K : Type 0} (before : K → K → Bool) where
     pub placed_grows : Grows w (placed w n c more)
     placed_grows = record { clock = omega arith; leaf = leaf_grown; root = inl refl }
 
-    pub placed_founded : Founded before w → All (λ (y : Node K). y.stamp < suc w.clock) more
+    pub placed_founded : Founded before w → AllByRecursion (λ (y : Node K). y.stamp < suc w.clock) more
         → ((ms : List (Node K)) → l.slot ≡ n → Absent more (l ∷ ms) → Tiled before (l ∷ ms) → Tiled before (node n w.clock c ∷ (more ++ ms)))
         → Founded before (placed w n c more)
     placed_founded f a fit =

@@ -1,6 +1,6 @@
 -- leaves tiled along the side links: each key in one leaf, and what a new chain in a slot makes of the whole
 use Rattle.std.proofs.Common.{◌≡◌, ℕ, Bool, true, false, cond, eqb, ◌⊎◌, List, [], ◌∷◌, ◌++◌, Some, None, Option, sym, refl, ap, ◌∙◌, subst, inl, inr, ⊎_elim, append_assoc, append-nil, arith}
-use Rattle.std.specs.List.{AllByRecursion as All}
+use Rattle.std.specs.List.{AllByRecursion}
 use Rattle.std.proofs.ByRecursion.{All-append, All-weaker}
 use Rattle.std.proofs.lemmas.Bool.{cases_Bool, cond_both, eqb-true, eq-eqb}
 use Rattle.std.proofs.lemmas.Bool.Decides.{nat_tests}
@@ -55,13 +55,13 @@ module _ {K : Type 0} where
   found_slot n [] l e = absurd (none_some l e)
   found_slot n (m ∷ ms) l e = ⊎_elim (λ q. rw (← q.1) (sym (eqb-true n m.slot q.0))) (λ q. found_slot n ms l q.1) (find_cases n m ms l e)
 
-  pub all_find : (P : Node K → Type 0) (n : ℕ) (ls : List (Node K)) (l : Node K) → All P ls → find n ls ≡ Some l → P l
+  pub all_find : (P : Node K → Type 0) (n : ℕ) (ls : List (Node K)) (l : Node K) → AllByRecursion P ls → find n ls ≡ Some l → P l
   all_find P n [] l a e = absurd (none_some l e)
   all_find P n (m ∷ ms) l a e = ⊎_elim (λ q. subst P q.1 a.0) (λ q. all_find P n ms l a.1 q.1) (find_cases n m ms l e)
 
-  pub all_splice : (P : Node K → Type 0) (n : ℕ) (x : Node K) (more ls : List (Node K)) → P x → All P more → All P ls → All P (splice n x more ls)
+  pub all_splice : (P : Node K → Type 0) (n : ℕ) (x : Node K) (more ls : List (Node K)) → P x → AllByRecursion P more → AllByRecursion P ls → AllByRecursion P (splice n x more ls)
   all_splice P n x more [] p m a = tt
-  all_splice P n x more (l ∷ ls) p m a = cond_both (eqb n l.slot) _ _ (All P) (λ _. (p, All-append P more ls m a.1)) (λ _. (a.0, all_splice P n x more ls p m a.1))
+  all_splice P n x more (l ∷ ls) p m a = cond_both (eqb n l.slot) _ _ (AllByRecursion P) (λ _. (p, All-append P more ls m a.1)) (λ _. (a.0, all_splice P n x more ls p m a.1))
 
   pub find_splice_same : (n t : ℕ) (c : Chain K) (more ls : List (Node K)) (l : Node K) → find n ls ≡ Some l → find n (splice n (node n t c) more ls) ≡ Some (node n t c)
   find_splice_same n t c more [] l e = absurd (none_some l e)

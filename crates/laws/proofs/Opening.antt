@@ -1,6 +1,6 @@
 -- each operation of a history was opened by the call that it names
 use Rattle.std.proofs.Common.{◌≡◌, ℕ, suc, ◌<◌, ◌≤◌, Bool, true, false, cond, eqb, ltb, ◌⊎◌, List, [], ◌∷◌, Some, None, Option, sym, refl, ap, ◌∙◌, inl, inr, ⊎_elim, arith}
-use Rattle.std.specs.List.{AllByRecursion as All}
+use Rattle.std.specs.List.{AllByRecursion}
 use Rattle.std.proofs.ByRecursion.{All-append}
 use Rattle.std.proofs.lemmas.Bool.{cases_Bool, both_ways, cond_both, eqb-true, eqb-false, eq-eqb, cases_lt}
 use Rattle.std.proofs.lemmas.Bool.Decides.{nat_tests}
@@ -243,29 +243,29 @@ module _ {K : Type 0} (before : K → K → Bool) (h : List (Event K)) where
       kept_turn : (t.did ≡ Opened → ⊥) → Kept before w (seat_of m.call) t
       kept_turn c = ⊎_elim (λ f. absurd (c f.0)) (λ k. k) (turned before w (seat_of m.call) m refl)
 
-      read_opens : t.did ≡ ReadLeaf → (o : Option Ended) → coming (suc n) (seat_of m.call) es ≡ o → All (Opens h) (read_at n v begins o)
+      read_opens : t.did ≡ ReadLeaf → (o : Option Ended) → coming (suc n) (seat_of m.call) es ≡ o → AllByRecursion (Opens h) (read_at n v begins o)
       read_opens d None e = tt
       read_opens d (Some x) e =
           let k = kept_turn (λ c. grind (arith, c, d)) in
           (entry_opens x.number x.ending k (k.reads d) (λ j y a l s c. unopened before cs t.world (suc n) (seat_of m.call) x e j y a l s c), tt)
 
-      swapped_opens : t.did ≡ Installed → (a : Answer) → All (Opens h) (swapped_at n v begins a)
+      swapped_opens : t.did ≡ Installed → (a : Answer) → AllByRecursion (Opens h) (swapped_at n v begins a)
       swapped_opens d answers.Begun = tt
       swapped_opens d answers.Going = tt
       swapped_opens d (answers.Ended y) =
           let k = kept_turn (λ c. grind (arith, c, d)) in
-          cond_both (changes y.end) _ _ (All (Opens h)) (λ _. (entry_opens n y k (k.installs d) (λ j e a l s c. let z : ⊥ = omega (arith, at_later es (suc n) j e a, l) in z), tt)) (λ _. tt)
+          cond_both (changes y.end) _ _ (AllByRecursion (Opens h)) (λ _. (entry_opens n y k (k.installs d) (λ j e a l s c. let z : ⊥ = omega (arith, at_later es (suc n) j e a, l) in z), tt)) (λ _. tt)
       swapped_opens d (answers.Reported x) = tt
       swapped_opens d (answers.Refused x) = tt
 
-      moment_opens : (d : Did) → t.did ≡ d → All (Opens h) (moment_at n v begins d es)
+      moment_opens : (d : Did) → t.did ≡ d → AllByRecursion (Opens h) (moment_at n v begins d es)
       moment_opens Opened q = tt
       moment_opens ReadLeaf q = read_opens q (coming (suc n) (seat_of m.call) es) refl
       moment_opens Installed q = swapped_opens q t.answer
       moment_opens Failed q = tt
       moment_opens Otherwise q = tt
 
-  rest_opens : (cs : List (Made K)) (w : World K) (n : ℕ) (begins : ℕ → ℕ) → Rest h n (run before w cs) → AllOpen w n begins → All (Opens h) (moments n begins (run before w cs))
+  rest_opens : (cs : List (Made K)) (w : World K) (n : ℕ) (begins : ℕ → ℕ) → Rest h n (run before w cs) → AllOpen w n begins → AllByRecursion (Opens h) (moments n begins (run before w cs))
   rest_opens [] w n begins r all = tt
   rest_opens (m ∷ cs) w n begins r all =
       let t = taking before w m in
@@ -277,5 +277,5 @@ module _ {K : Type 0} (before : K → K → Bool) (h : List (Event K)) where
 
 module _ {K : Type 0} (before : K → K → Bool) where
   -- from a world with all seats idle
-  pub opens : (cs : List (Made K)) (w : World K) → ((s : ℕ) → is_idle (w.seats s).phase ≡ true) → All (Opens (run before w cs)) (moments 1 (λ _. 0) (run before w cs))
+  pub opens : (cs : List (Made K)) (w : World K) → ((s : ℕ) → is_idle (w.seats s).phase ≡ true) → AllByRecursion (Opens (run before w cs)) (moments 1 (λ _. 0) (run before w cs))
   opens cs w i = rest_opens before (run before w cs) cs w 1 (λ _. 0) (record { inside = λ j e a. a; whole = λ j e a l. a }) (λ s q. absurd (both_ways (is_idle (w.seats s).phase) q (i s)))

@@ -1,7 +1,7 @@
 -- the operations in the order of their moments: the moments ascend and lie between begin and end, and the operations are
 -- those that ended, each once
 use Rattle.std.proofs.Common.{◌≡◌, ℕ, suc, ◌+◌, ◌<◌, ◌≤◌, Bool, true, false, cond, ◌||◌, eqb, ltb, List, [], ◌∷◌, ◌++◌, map, Some, None, Option, sym, refl, ap, ◌∙◌, subst, ⊎_elim, arith}
-use Rattle.std.specs.List.{AllByRecursion as All}
+use Rattle.std.specs.List.{AllByRecursion}
 use Rattle.std.proofs.ByRecursion.{All-append}
 use Rattle.std.proofs.lemmas.Bool.{cases_Bool, cond_both, eqb-true, eq-eqb}
 use Rattle.std.proofs.lemmas.Bool.Decides.{nat_tests}
@@ -90,7 +90,7 @@ module _ {K : Type 0} where
   order_one j n [] ys l o h = h j (omega (arith, l))
   order_one j n (p ∷ ps) ys l o h = rw o.2 (rw o.0 (l, h n (omega arith)))
 
-  between_one : (n : ℕ) (xs : List (Placed K)) → One n xs → All Between xs
+  between_one : (n : ℕ) (xs : List (Placed K)) → One n xs → AllByRecursion Between xs
   between_one n [] o = tt
   between_one n (p ∷ ps) o = rw o.2 (o.1, tt)
 
@@ -102,7 +102,7 @@ module _ {K : Type 0} where
       (λ i q. in_order_lem es (suc n) i (begun n e e.did begins) (begun_before n e e.did begins b) q)
 
   -- and lie after the begin and not after the end
-  pub all_between : (es : List (Event K)) (n : ℕ) (begins : ℕ → ℕ) → ((s : ℕ) → begins s < n) → All Between (moments n begins es)
+  pub all_between : (es : List (Event K)) (n : ℕ) (begins : ℕ → ℕ) → ((s : ℕ) → begins s < n) → AllByRecursion Between (moments n begins es)
   all_between [] n begins b = tt
   all_between (e ∷ es) n begins b =
       All-append Between (moment_at n e begins e.did es) (moments (suc n) (begun n e e.did begins) es) (between_one n (moment_at n e begins e.did es) (moment_one n e begins e.did es b))

@@ -1,6 +1,6 @@
 -- sound chains: the replay ascends and lies in the bounds, sizes are true, and a walk finds what the replay holds
 use Rattle.std.proofs.Common.{◌≡◌, ℕ, zero, suc, ◌<◌, ◌≤◌, Bool, true, false, cond, List, [], ◌∷◌, ◌++◌, length, take, drop, Some, None, Option, sym, refl, ◌∙◌, subst, arith, length-drop, take-append-drop, length-take}
-use Rattle.std.specs.List.{slice_get, AllByRecursion as All}
+use Rattle.std.specs.List.{slice_get, AllByRecursion}
 use Rattle.std.proofs.ByRecursion.{All-weaker, All-drop}
 use Rattle.keys.specs.Order.{Lawful, same_key}
 use Rattle.keys.proofs.Laws.{same_equal, not_after_before}
@@ -62,7 +62,7 @@ module _ {K : Type 0} (before : K → K → Bool) where
   Lawful_on kinds.Separator k v c = ⊥
 
   abbrev pub Sound : Chain K → Type 0
-  Sound (Base l h r xs) = Ascending before xs × All (λ (x : Item K). Within l h x.key) xs × (length xs ≤ 64)
+  Sound (Base l h r xs) = Ascending before xs × AllByRecursion (λ (x : Item K). Within l h x.key) xs × (length xs ≤ 64)
   Sound (On kind k v c) = Sound c × Lawful_on kind k v c
 
   -- what a walk for k finds
@@ -91,8 +91,8 @@ module _ {K : Type 0} {before : K → K → Bool} (law : Lawful K before) where
 
   -- ---- and lies within the bounds
 
-  bounded_on : (kind : Kind) (k : K) (v : ℕ) (c : Chain K) → Lawful_on before kind k v c → All (λ (x : Item K). Within before (low c) (high c) x.key) (replay before c)
-      → All (λ (x : Item K). Within before (low c) (high (On kind k v c)) x.key) (changed before kind k v (replay before c))
+  bounded_on : (kind : Kind) (k : K) (v : ℕ) (c : Chain K) → Lawful_on before kind k v c → AllByRecursion (λ (x : Item K). Within before (low c) (high c) x.key) (replay before c)
+      → AllByRecursion (λ (x : Item K). Within before (low c) (high (On kind k v c)) x.key) (changed before kind k v (replay before c))
   bounded_on kinds.Insertion k v c h a = all_insert before (λ (x : Item K). Within before (low c) (high c) x.key) k v (replay before c) h.0 a
   bounded_on kinds.Deletion k v c h a = all_remove before (λ (x : Item K). Within before (low c) (high c) x.key) k (replay before c) a
   bounded_on kinds.Split k v c h a =
@@ -101,14 +101,14 @@ module _ {K : Type 0} {before : K → K → Bool} (law : Lawful K before) where
       (all_below before (λ (x : Item K). Within before (low c) (high c) x.key) k (replay before c) a)
   bounded_on kinds.Separator k v c h a = absurd h
 
-  pub bounded : (c : Chain K) → Sound before c → All (λ (x : Item K). Within before (low c) (high c) x.key) (replay before c)
+  pub bounded : (c : Chain K) → Sound before c → AllByRecursion (λ (x : Item K). Within before (low c) (high c) x.key) (replay before c)
   bounded (Base l h r xs) s = s.1
   bounded (On kind k v c) s = bounded_on kind k v c s.1 (bounded c s.0)
 
   -- ---- a cut at a place
 
   wide_place : (l h : Option K) (xs : List (Item K)) (n : ℕ) (x : Item K) → 0 < n → slice_get xs n ≡ Some x → Ascending before xs
-      → All (λ (y : Item K). Within before l h y.key) xs → Wide before l (Some x.key)
+      → AllByRecursion (λ (y : Item K). Within before l h y.key) xs → Wide before l (Some x.key)
   wide_place None h xs n x z e s a = tt
   wide_place (Some l) h [] n x z e s a = absurd (none_some x e)
   wide_place (Some l) h (y ∷ ys) zero x z e s a = let q : ⊥ = omega arith in absurd q
@@ -184,8 +184,8 @@ module _ {K : Type 0} {before : K → K → Bool} (law : Lawful K before) where
     simp length-drop (omega (arith, sized c s, small c s)),
   )
     where
-      both : (xs : List (Item K)) → From before k xs → All (λ (x : Item K). Within before (low c) (high c) x.key) xs
-          → All (λ (x : Item K). Within before (Some k) (high c) x.key) xs
+      both : (xs : List (Item K)) → From before k xs → AllByRecursion (λ (x : Item K). Within before (low c) (high c) x.key) xs
+          → AllByRecursion (λ (x : Item K). Within before (Some k) (high c) x.key) xs
       both [] a b = tt
       both (x ∷ xs) a b = (record { past = a.0; fits = b.0.fits }, both xs a.1 b.1)
 

@@ -1,6 +1,6 @@
 -- over whole runs the answers are those of the plain map, and the leaves hold its pairs
 use Rattle.std.proofs.Common.{◌≡◌, ℕ, suc, Bool, true, false, cond, ltb, ◌⊎◌, List, [], ◌∷◌, ◌++◌, map, drop, Some, None, Option, sym, refl, ap, ◌∙◌, subst, inl, inr, append-nil, arith}
-use Rattle.std.specs.List.{AllByRecursion as All}
+use Rattle.std.specs.List.{AllByRecursion}
 use Rattle.std.proofs.lemmas.Bool.{cond_both, eq-eqb}
 use Rattle.keys.specs.Order.{Lawful, same_key}
 use Rattle.keys.proofs.Laws.{same_equal}
@@ -257,6 +257,6 @@ module _ {K : Type 0} {before : K → K → Bool} (law : Lawful K before) where
   call_possible : (w : World K) → Invariant before w → (c : Made K) → impossible (taking before w c).answer ≡ false
   call_possible w i c = cond_both (ltb (seat_of c.call) 4) _ _ (λ (t : Turn K). impossible t.answer ≡ false) (λ _. seated_possible w i c.granted c.call) (λ _. refl)
 
-  pub all_possible : (cs : List (Made K)) (w : World K) → Invariant before w → All (λ (e : Event K). impossible e.answer ≡ false) (run before w cs)
+  pub all_possible : (cs : List (Made K)) (w : World K) → Invariant before w → AllByRecursion (λ (e : Event K). impossible e.answer ≡ false) (run before w cs)
   all_possible [] w i = tt
   all_possible (c ∷ cs) w i = (call_possible w i c, all_possible cs (taking before w c).world (call_kept law w i c))

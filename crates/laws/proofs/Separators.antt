@@ -1,6 +1,6 @@
 -- the separators of the root: each leads to the leaf with its low key, and none stands twice
 use Rattle.std.proofs.Common.{◌≡◌, ℕ, ◌<◌, ◌≤◌, Bool, true, false, ◌⊎◌, List, [], ◌∷◌, length, Some, None, Option, sym, refl, ap, ◌∙◌, subst, inl, inr, ⊎_elim, arith}
-use Rattle.std.specs.List.{AllByRecursion as All}
+use Rattle.std.specs.List.{AllByRecursion}
 use Rattle.std.proofs.ByRecursion.{All-weaker}
 use Rattle.std.proofs.lemmas.Bool.{both_ways, cond_both}
 use Rattle.keys.specs.Order.{Lawful, same_key}
@@ -31,7 +31,7 @@ module _ {K : Type 0} (before : K → K → Bool) where
 
   -- every separator in a root's chain leads to its leaf
   abbrev pub Leading : List (Node K) → Chain K → Type 0
-  Leading ls (Base l h r xs) = All (λ (x : Item K). Leads ls x.key x.value) xs
+  Leading ls (Base l h r xs) = AllByRecursion (λ (x : Item K). Leads ls x.key x.value) xs
   Leading ls (On kind k n c) = Leads ls k n × Leading ls c
 
   -- the root's separators ascend, and each that is put on it is new
@@ -41,7 +41,7 @@ module _ {K : Type 0} (before : K → K → Bool) where
 
 module _ {K : Type 0} (before : K → K → Bool) where
   leading_on : (ls : List (Node K)) (kind : Kind) (k : K) (n : ℕ) (xs : List (Item K)) → Leads before ls k n
-      → All (λ (x : Item K). Leads before ls x.key x.value) xs → All (λ (x : Item K). Leads before ls x.key x.value) (changed before kind k n xs)
+      → AllByRecursion (λ (x : Item K). Leads before ls x.key x.value) xs → AllByRecursion (λ (x : Item K). Leads before ls x.key x.value) (changed before kind k n xs)
   leading_on ls kinds.Insertion k n xs l a = all_insert before (λ (x : Item K). Leads before ls x.key x.value) k n xs l a
   leading_on ls kinds.Deletion k n xs l a = all_remove before (λ (x : Item K). Leads before ls x.key x.value) k xs a
   leading_on ls kinds.Split k n xs l a =
@@ -50,7 +50,7 @@ module _ {K : Type 0} (before : K → K → Bool) where
   leading_on ls kinds.Separator k n xs l a = all_insert before (λ (x : Item K). Leads before ls x.key x.value) k n xs l a
 
   -- every separator of the replay leads to its leaf
-  pub leading_replay : (ls : List (Node K)) (c : Chain K) → Leading before ls c → All (λ (x : Item K). Leads before ls x.key x.value) (replay before c)
+  pub leading_replay : (ls : List (Node K)) (c : Chain K) → Leading before ls c → AllByRecursion (λ (x : Item K). Leads before ls x.key x.value) (replay before c)
   leading_replay ls (Base l h r xs) a = a
   leading_replay ls (On kind k n c) a = leading_on ls kind k n (replay before c) a.0 (leading_replay ls c a.1)
 
@@ -107,7 +107,7 @@ module _ {K : Type 0} {before : K → K → Bool} (law : Lawful K before) where
       → Fits before k (high l.chain) → Leads before ls k j → ⊥
   none_leads k n j ls l t e a b h = none_between k n j ls l h.leaf t e h.is a b h.low_is
 
-  lookup_leads : (ls : List (Node K)) (k : K) (xs : List (Item K)) → All (λ (x : Item K). Leads before ls x.key x.value) xs → ((j : ℕ) → Leads before ls k j → ⊥)
+  lookup_leads : (ls : List (Node K)) (k : K) (xs : List (Item K)) → AllByRecursion (λ (x : Item K). Leads before ls x.key x.value) xs → ((j : ℕ) → Leads before ls k j → ⊥)
       → lookup before k xs ≡ None
   lookup_leads ls k [] a h = refl
   lookup_leads ls k (x ∷ xs) a h =
@@ -138,14 +138,14 @@ module _ {K : Type 0} {before : K → K → Bool} (law : Lawful K before) where
 
   -- keys after the first leaf's low key belong to the others
   lows_tail : (o : Node K) (os : List (Node K)) (h : K) (xs : List (Item K)) → low o.chain ≡ Some h → Over before h xs
-      → All (λ (x : Item K). LowIn (o ∷ os) x.key) xs → All (λ (x : Item K). LowIn os x.key) xs
+      → AllByRecursion (λ (x : Item K). LowIn (o ∷ os) x.key) xs → AllByRecursion (λ (x : Item K). LowIn os x.key) xs
   lows_tail o os h [] e v a = tt
   lows_tail o os h (x ∷ xs) e v a = (
     ⊎_elim (λ q. absurd (both_ways (before h h) (law.irreflexive h) (subst (λ (j : K). before h j ≡ true) (sym (some_injective h x.key (sym e ∙ q))) v.0))) (λ q. q) (low_cases o os x.key a.0),
     lows_tail o os h xs e v.1 a.1,
   )
 
-  lows_count : (m : Node K) (ms : List (Node K)) (xs : List (Item K)) → Tiled before (m ∷ ms) → Ascending before xs → All (λ (x : Item K). LowIn ms x.key) xs → length xs ≤ length ms
+  lows_count : (m : Node K) (ms : List (Node K)) (xs : List (Item K)) → Tiled before (m ∷ ms) → Ascending before xs → AllByRecursion (λ (x : Item K). LowIn ms x.key) xs → length xs ≤ length ms
   lows_count m ms [] t s a = omega arith
   lows_count m [] (x ∷ xs) t s a = absurd (none_some a.0.1.leaf a.0.1.is)
   lows_count m (o ∷ os) (x ∷ xs) t s a =
@@ -162,7 +162,7 @@ module _ {K : Type 0} {before : K → K → Bool} (law : Lawful K before) where
   fewer_separators n [] c g t s a = absurd g
   fewer_separators n (l ∷ ms) c g t s a = omega (arith, lows_count l ms (replay before c) t (root_ascending c s) (others (replay before c) (leading_replay before (l ∷ ms) c a)))
     where
-      others : (xs : List (Item K)) → All (λ (x : Item K). Leads before (l ∷ ms) x.key x.value) xs → All (λ (x : Item K). LowIn ms x.key) xs
+      others : (xs : List (Item K)) → AllByRecursion (λ (x : Item K). Leads before (l ∷ ms) x.key x.value) xs → AllByRecursion (λ (x : Item K). LowIn ms x.key) xs
       others [] b = tt
       others (x ∷ xs) b =
           (⊎_elim (λ q. absurd (none_some x.key (sym g.0 ∙ q))) (λ q. q) (low_cases l ms x.key (x.value, b.0)), others xs b.1)

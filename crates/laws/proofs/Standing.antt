@@ -1,6 +1,6 @@
 -- what holds of a world between calls, and that it outlasts what other seats do
 use Rattle.std.proofs.Common.{◌≡◌, ℕ, ◌<◌, ◌≤◌, Bool, true, false, eqb, ◌⊎◌, List, Some, None, Option, sym, refl, ap, ◌∙◌, ⊎_elim, arith}
-use Rattle.std.specs.List.{AllByRecursion as All}
+use Rattle.std.specs.List.{AllByRecursion}
 use Rattle.std.proofs.ByRecursion.{All-weaker}
 use Rattle.std.proofs.lemmas.Bool.{eqb-true, eq-eqb}
 use Rattle.nodes.specs.declared.node.Item.{Item}
@@ -125,7 +125,7 @@ module _ {K : Type 0} (before : K → K → Bool) where
   pub record Founded (w : World K) : Type 0 where
     pub tiled : Tiled before w.leaves
     pub ground : Ground before w.first w.leaves
-    pub stamps : All (λ (l : Node K). l.stamp < w.clock) w.leaves
+    pub stamps : AllByRecursion (λ (l : Node K). l.stamp < w.clock) w.leaves
     pub root_stamp : w.root.stamp < w.clock
     pub leading : Leading before w.leaves w.root.chain
     pub root_sound : RootSound before w.root.chain

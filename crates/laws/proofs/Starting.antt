@@ -1,6 +1,6 @@
 -- at the start: items in leaves, all seats idle
 use Rattle.std.proofs.Common.{◌≡◌, ℕ, ◌<◌, Bool, true, false, List, [], ◌∷◌, ◌++◌, map, Some, None, Option, refl, ap, subst, append-nil, arith}
-use Rattle.std.specs.List.{AllByRecursion as All}
+use Rattle.std.specs.List.{AllByRecursion}
 use Rattle.std.proofs.ByRecursion.{All-weaker}
 use Rattle.std.proofs.lemmas.Bool.{eq-eqb, ne_eqb}
 use Rattle.keys.specs.Order.{Lawful}
@@ -17,11 +17,11 @@ use Rattle.laws.proofs.Separators.{Leads}
 use Rattle.laws.proofs.Standing.{Invariant}
 
 module _ {K : Type 0} where
-  all_left : (P : Item K → Type 0) (xs ys : List (Item K)) → All P (xs ++ ys) → All P xs
+  all_left : (P : Item K → Type 0) (xs ys : List (Item K)) → AllByRecursion P (xs ++ ys) → AllByRecursion P xs
   all_left P [] ys a = tt
   all_left P (x ∷ xs) ys a = (a.0, all_left P xs ys a.1)
 
-  all_right : (P : Item K → Type 0) (xs ys : List (Item K)) → All P (xs ++ ys) → All P ys
+  all_right : (P : Item K → Type 0) (xs ys : List (Item K)) → AllByRecursion P (xs ++ ys) → AllByRecursion P ys
   all_right P [] ys a = a
   all_right P (x ∷ xs) ys a = all_right P xs ys a.1
 
@@ -72,7 +72,7 @@ module _ {K : Type 0} (before : K → K → Bool) where
   follows_leaves c k n xs [] h r = (k, h, r, refl)
   follows_leaves c k n xs (p ∷ ps) h r = (k, h, r, refl)
 
-  find_leaves : (i : ℕ) (l : Option K) (n : ℕ) (xs : List (Item K)) (ps : List (Part K)) → (i ≡ n → ⊥) → All (λ (q : Part K). i ≡ q.slot → ⊥) ps → find i (leaves_of l n xs ps) ≡ None
+  find_leaves : (i : ℕ) (l : Option K) (n : ℕ) (xs : List (Item K)) (ps : List (Part K)) → (i ≡ n → ⊥) → AllByRecursion (λ (q : Part K). i ≡ q.slot → ⊥) ps → find i (leaves_of l n xs ps) ≡ None
   find_leaves i l n xs [] d a = rw (ne_eqb i n d)
   find_leaves i l n xs (p ∷ ps) d a = rw (ne_eqb i n d) (find_leaves i (Some p.first.key) p.slot (p.first ∷ p.others) ps a.0 a.1)
 
@@ -80,7 +80,7 @@ module _ {K : Type 0} (before : K → K → Bool) where
   start_ground n xs [] = (refl, refl)
   start_ground n xs (p ∷ ps) = (refl, refl)
 
-  start_stamps : (l : Option K) (n : ℕ) (xs : List (Item K)) (ps : List (Part K)) → All (λ (x : Node K). x.stamp < 1) (leaves_of l n xs ps)
+  start_stamps : (l : Option K) (n : ℕ) (xs : List (Item K)) (ps : List (Part K)) → AllByRecursion (λ (x : Node K). x.stamp < 1) (leaves_of l n xs ps)
   start_stamps l n xs [] = (omega arith, tt)
   start_stamps l n xs (p ∷ ps) = (omega arith, start_stamps (Some p.first.key) p.slot (p.first ∷ p.others) ps)
 
@@ -91,7 +91,7 @@ module _ {K : Type 0} (before : K → K → Bool) where
   -- every separator leads to its leaf
   start_leading : (ls : List (Node K)) (l : Option K) (n : ℕ) (xs : List (Item K)) (ps : List (Part K))
       → ((i : ℕ) (y : Node K) → find i (leaves_of l n xs ps) ≡ Some y → find i ls ≡ Some y) → Tiled before (leaves_of l n xs ps)
-      → All (λ (x : Item K). Leads before ls x.key x.value) (map separator ps)
+      → AllByRecursion (λ (x : Item K). Leads before ls x.key x.value) (map separator ps)
   start_leading ls l n xs [] sub t = tt
   start_leading ls l n xs (p ∷ ps) sub t =
       let ms = leaves_of (Some p.first.key) p.slot (p.first ∷ p.others) ps in
@@ -101,15 +101,15 @@ module _ {K : Type 0} (before : K → K → Bool) where
       )
 
 module _ {K : Type 0} {before : K → K → Bool} (law : Lawful K before) where
-  headed_past : (l : Option K) (xs : List (Item K)) → Headed before l xs → Ascending before xs → All (λ (x : Item K). Past before l x.key) xs
+  headed_past : (l : Option K) (xs : List (Item K)) → Headed before l xs → Ascending before xs → AllByRecursion (λ (x : Item K). Past before l x.key) xs
   headed_past None xs h s = all_none xs
     where
-      all_none : (ys : List (Item K)) → All (λ (x : Item K). Past before None x.key) ys
+      all_none : (ys : List (Item K)) → AllByRecursion (λ (x : Item K). Past before None x.key) ys
       all_none [] = tt
       all_none (y ∷ ys) = (tt, all_none ys)
   headed_past (Some l) [] h s = absurd h
   headed_past (Some l) (x ∷ xs) h s =
-      subst (λ (k : K). All (λ (y : Item K). before y.key k ≡ false) (x ∷ xs)) h
+      subst (λ (k : K). AllByRecursion (λ (y : Item K). before y.key k ≡ false) (x ∷ xs)) h
       (law.irreflexive x.key, All-weaker (λ (y : Item K). before x.key y.key ≡ true) (λ (y : Item K). before y.key x.key ≡ false) (λ y e. asymmetric law x.key y.key e) xs s.0)
 
   headed_wide : (l : Option K) (k : K) (xs : List (Item K)) → Headed before l xs → Under before k xs → Wide before l (Some k)
@@ -117,12 +117,12 @@ module _ {K : Type 0} {before : K → K → Bool} (law : Lawful K before) where
   headed_wide (Some l) k [] h u = absurd h
   headed_wide (Some l) k (x ∷ xs) h u = rw (← h) u.0
 
-  within_all : (l h : Option K) (xs : List (Item K)) → All (λ (x : Item K). Past before l x.key) xs → All (λ (x : Item K). Fits before x.key h) xs
-      → All (λ (x : Item K). Within before l h x.key) xs
+  within_all : (l h : Option K) (xs : List (Item K)) → AllByRecursion (λ (x : Item K). Past before l x.key) xs → AllByRecursion (λ (x : Item K). Fits before x.key h) xs
+      → AllByRecursion (λ (x : Item K). Within before l h x.key) xs
   within_all l h [] a b = tt
   within_all l h (x ∷ xs) a b = (record { past = a.0; fits = b.0 }, within_all l h xs a.1 b.1)
 
-  no_high : (xs : List (Item K)) → All (λ (x : Item K). Fits before x.key None) xs
+  no_high : (xs : List (Item K)) → AllByRecursion (λ (x : Item K). Fits before x.key None) xs
   no_high [] = tt
   no_high (x ∷ xs) = (tt, no_high xs)
 

@@ -1,6 +1,6 @@
 -- the moments of a history are the calls that they should be
 use Rattle.std.proofs.Common.{◌≡◌, ℕ, suc, ◌≤◌, Bool, true, false, cond, eqb, List, [], ◌∷◌, Some, None, Option, refl, ap, ◌∙◌, subst, inl, inr, arith}
-use Rattle.std.specs.List.{AllByRecursion as All}
+use Rattle.std.specs.List.{AllByRecursion}
 use Rattle.std.proofs.ByRecursion.{All-append}
 use Rattle.std.proofs.lemmas.Bool.{both_ways, cond_both, eqb-true, eqb-false}
 use Rattle.bwtree.specs.declared.answer.Answer.{Answer}
@@ -102,7 +102,7 @@ module _ {K : Type 0} where
         past j e l (inr a) = a
 
     module _ (n : ℕ) (v : Event K) (es : List (Event K)) (begins : ℕ → ℕ) (r : Rest n (v ∷ es)) where
-      read_timed : v.did ≡ ReadLeaf → (o : Option Ended) → coming (suc n) v.seat es ≡ o → All (Timed h) (read_at n v begins o)
+      read_timed : v.did ≡ ReadLeaf → (o : Option Ended) → coming (suc n) v.seat es ≡ o → AllByRecursion (Timed h) (read_at n v begins o)
       read_timed d None e = tt
       read_timed d (Some x) e =
           let i = coming_inner es (suc n) v.seat x e in
@@ -124,27 +124,27 @@ module _ {K : Type 0} where
             tt,
           )
 
-      swapped_timed : (a : Answer) → v.answer ≡ a → All (Timed h) (swapped_at n v begins a)
+      swapped_timed : (a : Answer) → v.answer ≡ a → AllByRecursion (Timed h) (swapped_at n v begins a)
       swapped_timed answers.Begun q = tt
       swapped_timed answers.Going q = tt
       swapped_timed (answers.Ended y) q =
-          cond_both (changes y.end) _ _ (All (Timed h))
+          cond_both (changes y.end) _ _ (AllByRecursion (Timed h))
           (λ k. (record { call = v; is = r.inside n v (inl (refl, refl)); seat = refl; answers = q; at_end = λ _. refl; at_read = λ c. absurd (both_ways (changes y.end) c k) }, tt)) (λ _. tt)
       swapped_timed (answers.Reported x) q = tt
       swapped_timed (answers.Refused x) q = tt
 
-      moment_timed : (d : Did) → v.did ≡ d → All (Timed h) (moment_at n v begins d es)
+      moment_timed : (d : Did) → v.did ≡ d → AllByRecursion (Timed h) (moment_at n v begins d es)
       moment_timed Opened q = tt
       moment_timed ReadLeaf q = read_timed q (coming (suc n) v.seat es) refl
       moment_timed Installed q = swapped_timed v.answer refl
       moment_timed Failed q = tt
       moment_timed Otherwise q = tt
 
-    rest_timed : (es : List (Event K)) (n : ℕ) (begins : ℕ → ℕ) → Rest n es → All (Timed h) (moments n begins es)
+    rest_timed : (es : List (Event K)) (n : ℕ) (begins : ℕ → ℕ) → Rest n es → AllByRecursion (Timed h) (moments n begins es)
     rest_timed [] n begins r = tt
     rest_timed (v ∷ es) n begins r =
         All-append (Timed h) (moment_at n v begins v.did es) (moments (suc n) (begun n v v.did begins) es) (moment_timed n v es begins r v.did refl)
         (rest_timed es (suc n) (begun n v v.did begins) (rest_next n v es r))
 
-  pub timed : (h : List (Event K)) → All (Timed h) (moments 1 (λ _. 0) h)
+  pub timed : (h : List (Event K)) → AllByRecursion (Timed h) (moments 1 (λ _. 0) h)
   timed h = rest_timed h h 1 (λ _. 0) (record { inside = λ j e a. a; whole = λ j e a l. a })

@@ -1,6 +1,6 @@
 -- the theorem: an index behaves as a plain map
 use Rattle.std.specs.Prelude.{◌≡◌, ℕ, ◌+◌, ◌≤◌, Bool, true, false, List, [], ◌∷◌, ◌++◌, map, length, Some, None, Option, ◌≢◌}
-use Rattle.std.specs.List.{AllByRecursion as All}
+use Rattle.std.specs.List.{AllByRecursion}
 use Rattle.nodes.specs.declared.node.Item.{Item}
 use Rattle.nodes.specs.Items.{lookup, ascends}
 use Rattle.bwtree.specs.declared.answer.Answer.{Answer}
@@ -66,7 +66,7 @@ module _ {K : Type 0} where
   -- no slot stands twice
   abbrev pub SlotsDiffer : ℕ → List (Part K) → Type 0
   SlotsDiffer n [] = Unit {0}
-  SlotsDiffer n (p ∷ ps) = All (λ (q : Part K). n ≢ q.slot) (p ∷ ps) × SlotsDiffer p.slot ps
+  SlotsDiffer n (p ∷ ps) = AllByRecursion (λ (q : Part K). n ≢ q.slot) (p ∷ ps) × SlotsDiffer p.slot ps
 
   -- no leaf has more than 64 items
   abbrev pub LeavesFit : List (Item K) → List (Part K) → Type 0
@@ -85,10 +85,10 @@ module _ {K : Type 0} (before : K → K → Bool) where
   pub record ActsAsMap (w : World K) (m : Plain K) (cs : List (Made K)) : Type 0 where
     -- the moments ascend, so no two are the same
     pub in_order : InOrder 0 (operations (run before w cs))
-    pub between : All Between (operations (run before w cs))
+    pub between : AllByRecursion Between (operations (run before w cs))
     -- begin, moment and end are the calls that they should be
-    pub opens : All (Opens (run before w cs)) (operations (run before w cs))
-    pub timed : All (Timed (run before w cs)) (operations (run before w cs))
+    pub opens : AllByRecursion (Opens (run before w cs)) (operations (run before w cs))
+    pub timed : AllByRecursion (Timed (run before w cs)) (operations (run before w cs))
     -- these are the operations that ended with a map answer, each exactly once
     pub once : (s : ℕ) (f : Operation K → ℕ) → weigh s f (map (λ (p : Placed K). p.operation) (operations (run before w cs))) ≡ weigh s f (ended_operations (run before w cs))
     -- in the order of their moments, their answers are those of the plain map
@@ -99,7 +99,7 @@ module _ {K : Type 0} (before : K → K → Bool) where
     pub only : (xs : List (Item K)) → Along (after before w cs).leaves (after before w cs).first xs → xs ≡ items
     pub pairs : Holds before (fill before m (map asked (operations (run before w cs)))) items
     -- no call meets an impossible number
-    pub possible : All (λ (e : Event K). impossible e.answer ≡ false) (run before w cs)
+    pub possible : AllByRecursion (λ (e : Event K). impossible e.answer ≡ false) (run before w cs)
     -- the clock has counted the installed swaps, and nothing else
     pub heads : (after before w cs).clock ≡ w.clock + installed_in (run before w cs)
     -- a seat's failed swaps are at most the swaps that the others installed

@@ -1,6 +1,6 @@
 -- the shape of the tree after any list of calls: what its leaves and its root hold
 use Rattle.std.specs.Prelude.{◌≡◌, ℕ, ◌<◌, ◌≤◌, Bool, true, false, not, List, ◌++◌, length, take, drop, Some, None, Option}
-use Rattle.std.specs.List.{slice_get, AllByRecursion as All}
+use Rattle.std.specs.List.{slice_get, AllByRecursion}
 use Rattle.nodes.specs.declared.node.Item.{Item}
 use Rattle.nodes.specs.Items.{lookup, below, last_not_after, ascends}
 use Rattle.bwtree.specs.declared.walk.Look.TheVariants as looks
@@ -40,7 +40,7 @@ module _ {K : Type 0} (before : K → K → Bool) where
   -- a leaf's chain
   pub record LeafStands (c : Chain K) : Type 0 where
     pub ordered : ascends before (replay before c) ≡ true
-    pub bounded : All (λ (x : Item K). InRange c x.key) (replay before c)
+    pub bounded : AllByRecursion (λ (x : Item K). InRange c x.key) (replay before c)
     pub size : (attributes_of c).size ≡ length (replay before c)
     pub small : (attributes_of c).size ≤ 64
     -- a walk finds what the replay holds
@@ -55,7 +55,7 @@ module _ {K : Type 0} (before : K → K → Bool) where
     pub size : (attributes_of c).size ≡ length (replay before c)
     -- one leaf has no separator with a key
     pub fewer : length (replay before c) < length ls
-    pub leads : All (λ (x : Item K). (l : Node K) × (find x.value ls ≡ Some l) × ((attributes_of l.chain).low ≡ Some x.key)) (replay before c)
+    pub leads : AllByRecursion (λ (x : Item K). (l : Node K) × (find x.value ls ≡ Some l) × ((attributes_of l.chain).low ≡ Some x.key)) (replay before c)
     -- a walk leads to the greatest separator that does not stand after the key
     pub walks : (k : K) → RootWalks first k None c (slot_for first (last_not_after before k (replay before c)))
 

@@ -2,7 +2,7 @@
 use Rattle.std.proofs.Common.{◌≡◌, ℕ, zero, suc, ◌-◌, ◌<◌, ◌≤◌, Bool, true, false, cond, List, [], ◌∷◌, ◌++◌, length, Some, None, Option, sym, refl, ap, ◌∙◌, subst, arith}
 use Rattle.keys.proofs.Laws.{same_equal}
 use Rattle.keys.specs.Order.{Lawful, same_key}
-use Rattle.std.specs.List.{slice_get, AllByRecursion as All}
+use Rattle.std.specs.List.{slice_get, AllByRecursion}
 use Rattle.nodes.specs.declared.node.Item.{Item}
 use Rattle.nodes.specs.Items.{lookup}
 use Rattle.nodes.specs.Merge.{receded}
@@ -50,21 +50,21 @@ module _ {K : Type 0} where
   down_cons y xs zero h = refl
   down_cons y xs (suc i) h = opened_snoc (slice_get xs i) y (down (y ∷ xs) (suc i)) (down xs i) (nth_none xs i h) (down_cons y xs i (omega arith))
 
-  all_snoc : (P : Item K → Type 0) (xs : List (Item K)) (y : Item K) → All P xs → P y → All P (xs ++ (y ∷ []))
+  all_snoc : (P : Item K → Type 0) (xs : List (Item K)) (y : Item K) → AllByRecursion P xs → P y → AllByRecursion P (xs ++ (y ∷ []))
   all_snoc P [] y a p = (p, tt)
   all_snoc P (x ∷ xs) y a p = (a.0, all_snoc P xs y a.1 p)
 
-  all_down : (P : Item K → Type 0) (xs : List (Item K)) → All P xs → All P (down xs (length xs))
+  all_down : (P : Item K → Type 0) (xs : List (Item K)) → AllByRecursion P xs → AllByRecursion P (down xs (length xs))
   all_down P [] a = tt
   all_down P (x ∷ xs) a =
-      subst (λ (t : List (Item K)). All P t) (sym (down_cons x xs (length xs) (omega arith))) (all_snoc P (down xs (length xs)) x (all_down P xs a.1) a.0)
+      subst (λ (t : List (Item K)). AllByRecursion P t) (sym (down_cons x xs (length xs) (omega arith))) (all_snoc P (down xs (length xs)) x (all_down P xs a.1) a.0)
 
 module _ {K : Type 0} (before : K → K → Bool) (law : Lawful K before) where
-  descending_snoc : (xs : List (Item K)) (y : Item K) → Descending before xs → All (λ (x : Item K). before y.key x.key ≡ true) xs → Descending before (xs ++ (y ∷ []))
+  descending_snoc : (xs : List (Item K)) (y : Item K) → Descending before xs → AllByRecursion (λ (x : Item K). before y.key x.key ≡ true) xs → Descending before (xs ++ (y ∷ []))
   descending_snoc [] y d o = (tt, tt)
   descending_snoc (x ∷ xs) y d o = (all_snoc (λ (z : Item K). before z.key x.key ≡ true) xs y d.0 o.0, descending_snoc xs y d.1 o.1)
 
-  lookup_snoc : (k : K) (xs : List (Item K)) (y : Item K) → All (λ (x : Item K). before y.key x.key ≡ true) xs
+  lookup_snoc : (k : K) (xs : List (Item K)) (y : Item K) → AllByRecursion (λ (x : Item K). before y.key x.key ≡ true) xs
       → lookup before k (xs ++ (y ∷ [])) ≡ cond (same_key before k y.key) (Some y.value) (lookup before k xs)
   lookup_snoc k [] y o = refl
   lookup_snoc k (x ∷ xs) y o = grind (arith, o.0, same_equal law k x.key, same_equal law k y.key, lookup_snoc k xs y o.1)

@@ -3,7 +3,7 @@ use Rattle.std.proofs.Common.{◌≡◌, ℕ, suc, ◌+◌, ◌-◌, ◌<◌, �
 use Rattle.keys.specs.Order.{Lawful}
 use Rattle.std.proofs.lemmas.List.{drop_all, take_all}
 use Rattle.std.proofs.lemmas.Bool.{and_parts, cases_Bool, cases_lt, cond_both, leb-true, le-ltb, lt-ltb, or_cases}
-use Rattle.std.specs.List.{slice_get, AllByRecursion as All}
+use Rattle.std.specs.List.{slice_get, AllByRecursion}
 use Rattle.nodes.specs.declared.merge.Cursor.{Cursor}
 use Rattle.nodes.specs.declared.merge.Pick.{Pick}
 use Rattle.nodes.specs.declared.node.Delta.{Delta}
@@ -28,7 +28,7 @@ below_none : {K : Type 0} (before : K → K → Bool) (xs : List (Item K)) → b
 below_none before [] = refl
 below_none {K = K} before (x ∷ xs) = ap (λ (t : List (Item K)). x ∷ t) (below_none before xs)
 
-all_true : {K : Type 0} (xs : List (Item K)) → All (λ (y : Item K). true ≡ true) xs
+all_true : {K : Type 0} (xs : List (Item K)) → AllByRecursion (λ (y : Item K). true ≡ true) xs
 all_true [] = tt
 all_true (x ∷ xs) = (refl, all_true xs)
 

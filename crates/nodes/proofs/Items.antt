@@ -4,7 +4,7 @@ use Rattle.keys.proofs.Laws.{asymmetric, before_not_after, not_after_before, sam
 use Rattle.keys.specs.Order.{Lawful, same_key}
 use Rattle.std.proofs.ByRecursion.{All-weaker}
 use Rattle.std.proofs.lemmas.Bool.{and_parts, cases_Bool, cond_both}
-use Rattle.std.specs.List.{AllByRecursion as All}
+use Rattle.std.specs.List.{AllByRecursion}
 use Rattle.nodes.specs.declared.node.Item.{Item}
 use Rattle.nodes.specs.Items.{all_after, ascends, below, insert, lookup, remove}
 use Rattle.nodes.specs.Scan.{fits}
@@ -12,10 +12,10 @@ use Rattle.nodes.specs.Scan.{fits}
 module _ {K : Type 0} (before : K → K → Bool) where
   -- all keys stand after a, or before it
   abbrev pub Over : K → List (Item K) → Type 0
-  Over a xs = All (λ (y : Item K). before a y.key ≡ true) xs
+  Over a xs = AllByRecursion (λ (y : Item K). before a y.key ≡ true) xs
 
   abbrev pub Under : K → List (Item K) → Type 0
-  Under a xs = All (λ (y : Item K). before y.key a ≡ true) xs
+  Under a xs = AllByRecursion (λ (y : Item K). before y.key a ≡ true) xs
 
   -- each key stands before every later one, or after it
   abbrev pub Ascending : List (Item K) → Type 0

@@ -3,7 +3,7 @@ use Rattle.std.proofs.Common.{◌≡◌, ℕ, Bool, true, false, cond, not, List
 use Rattle.keys.proofs.Laws.{asymmetric, same_itself}
 use Rattle.keys.specs.Order.{Lawful}
 use Rattle.std.proofs.lemmas.Bool.{cases_Bool}
-use Rattle.std.specs.List.{AllByRecursion as All}
+use Rattle.std.specs.List.{AllByRecursion}
 use Rattle.nodes.specs.declared.merge.Pick.{Pick}
 use Rattle.nodes.specs.declared.node.Delta.{Delta}
 use Rattle.nodes.specs.declared.node.Item.{Item}
@@ -29,7 +29,7 @@ rest_of (x ∷ xs) = xs
 module _ {K : Type 0} (before : K → K → Bool) (items base : List (Item K)) where
   -- the merge has come down to `last`; `rest` is what the frame still has
   pub record Stands (last : Option K) (rest : List (Item K)) (s : Seen K) : Type 0 where
-    pub over : All (λ (y : Item K). fits before y.key last ≡ true) rest
+    pub over : AllByRecursion (λ (y : Item K). fits before y.key last ≡ true) rest
     pub descend : Descending before rest
     pub alike : (x : K) → fits before x last ≡ true → lookup before x base ≡ lookup before x rest
     pub pass : Scanned before items (λ x. lookup before x base) last s

@@ -6,7 +6,7 @@ use Rattle.std.proofs.ByRecursion.{All-get_or}
 use Rattle.std.proofs.lemmas.List.{get_or_default}
 use Rattle.std.proofs.lemmas.Option.{slice_get-get_or}
 use Rattle.std.proofs.lemmas.Bool.{cases_Bool, cases_lt, cond_both, le-leb}
-use Rattle.std.specs.List.{slice_get, AllByRecursion as All}
+use Rattle.std.specs.List.{slice_get, AllByRecursion}
 use Rattle.nodes.specs.declared.node.Item.{Item}
 use Rattle.nodes.specs.declared.frame.Separators.{Separators}
 use Rattle.nodes.specs.Build.{Kept}
@@ -64,7 +64,7 @@ module _ {K : Type 0} (before : K → K → Bool) (law : Lawful K before) (k : K
   abbrev keys_of : List (Item K) → List K
   keys_of xs = map (λ (x : Item K). x.key) xs
 
-  all_keys : (a : K) (xs : List (Item K)) → Over before a xs → All (λ l. before a l ≡ true) (keys_of xs)
+  all_keys : (a : K) (xs : List (Item K)) → Over before a xs → AllByRecursion (λ l. before a l ≡ true) (keys_of xs)
   all_keys a [] o = tt
   all_keys a (x ∷ xs) o = (o.0, all_keys a xs o.1)
 

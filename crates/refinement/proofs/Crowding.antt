@@ -1,6 +1,6 @@
 -- each leaf and the root have a slot and a frame of their own, so there are no more of them than slots and frames
 use Rattle.std.proofs.Common.{◌≡◌, ℕ, zero, suc, ◌+◌, ◌<◌, ◌≤◌, Bool, true, false, not, eqb, List, [], ◌∷◌, map, length, Some, None, filter, sym, refl, ap, ◌∙◌, subst, ⊎_elim, arith}
-use Rattle.std.specs.List.{AllByRecursion as All}
+use Rattle.std.specs.List.{AllByRecursion}
 use Rattle.std.proofs.ByRecursion.{all_kept_by, All-map, All-weaker}
 use Rattle.std.proofs.lemmas.Bool.{both_ways, cases_Bool, cond_both, eq-eqb, eqb-true, not-true}
 use Rattle.nodes.specs.declared.node.Head.{Head}
@@ -22,7 +22,7 @@ use Rattle.refinement.proofs.Slots.{leaf_in_slot}
 -- no number stands twice
 abbrev pub Different : List ℕ → Type 0
 Different [] = Unit {0}
-Different (n ∷ ns) = All (λ (i : ℕ). eqb n i ≡ false) ns × Different ns
+Different (n ∷ ns) = AllByRecursion (λ (i : ℕ). eqb n i ≡ false) ns × Different ns
 
 -- n is the label of one of so many places
 abbrev pub Labels : (ℕ → ℕ) → ℕ → ℕ → Type 0
@@ -32,7 +32,7 @@ Labels label places n = (p : ℕ) × (p < places) × (label p ≡ n)
 abbrev others : ℕ → List ℕ → List ℕ
 others n ns = filter (λ (i : ℕ). not (eqb n i)) ns
 
-all_others : (n : ℕ) (ns : List ℕ) → All (λ (i : ℕ). eqb n i ≡ false) ns → length (others n ns) ≡ length ns
+all_others : (n : ℕ) (ns : List ℕ) → AllByRecursion (λ (i : ℕ). eqb n i ≡ false) ns → length (others n ns) ≡ length ns
 all_others n [] a = refl
 all_others n (i ∷ ns) a = rw a.0 (ap suc (all_others n ns a.1))
 
@@ -40,7 +40,7 @@ all_others n (i ∷ ns) a = rw a.0 (ap suc (all_others n ns a.1))
 length_others : (n : ℕ) (ns : List ℕ) → Different ns → length ns ≤ suc (length (others n ns))
 length_others n [] d = omega arith
 length_others n (i ∷ ns) d =
-    ⊎_elim (λ q. let e = all_others n ns (subst (λ (j : ℕ). All (λ (i : ℕ). eqb j i ≡ false) ns) (sym (eqb-true n i q)) d.0) in rw q (omega arith))
+    ⊎_elim (λ q. let e = all_others n ns (subst (λ (j : ℕ). AllByRecursion (λ (i : ℕ). eqb j i ≡ false) ns) (sym (eqb-true n i q)) d.0) in rw q (omega arith))
     (λ q. let e = length_others n ns d.1 in rw q (omega arith)) (cases_Bool (eqb n i))
 
 different_others : (n : ℕ) (ns : List ℕ) → Different ns → Different (others n ns)
@@ -56,13 +56,13 @@ label_earlier label b n q (p, l, e) = (p, omega (arith, apart), e)
     apart : p ≡ b → ⊥
     apart h = both_ways (eqb (label b) n) (not-true (eqb (label b) n) q) (eq-eqb (label b) n (ap label (sym h) ∙ e))
 
-labels_others : (label : ℕ → ℕ) (b : ℕ) (ns : List ℕ) → All (Labels label (suc b)) ns → All (Labels label b) (others (label b) ns)
+labels_others : (label : ℕ → ℕ) (b : ℕ) (ns : List ℕ) → AllByRecursion (Labels label (suc b)) ns → AllByRecursion (Labels label b) (others (label b) ns)
 labels_others label b [] a = tt
 labels_others label b (n ∷ ns) a =
-    cond_both (not (eqb (label b) n)) _ _ (All (Labels label b)) (λ q. (label_earlier label b n q a.0, labels_others label b ns a.1)) (λ _. labels_others label b ns a.1)
+    cond_both (not (eqb (label b) n)) _ _ (AllByRecursion (Labels label b)) (λ q. (label_earlier label b n q a.0, labels_others label b ns a.1)) (λ _. labels_others label b ns a.1)
 
 -- different numbers that are labels of places are not more than the places
-pub few : (label : ℕ → ℕ) (places : ℕ) (ns : List ℕ) → Different ns → All (Labels label places) ns → length ns ≤ places
+pub few : (label : ℕ → ℕ) (places : ℕ) (ns : List ℕ) → Different ns → AllByRecursion (Labels label places) ns → length ns ≤ places
 few label zero [] d a = omega arith
 few label zero (n ∷ ns) d a = let l = a.0.1 in absurd (omega arith)
 few label (suc b) ns d a =
@@ -76,7 +76,7 @@ module _ {K : Type 0} where
   abbrev pub slots_of : List (Node K) → List ℕ
   slots_of ls = map (λ (l : Node K). l.slot) ls
 
-  not_among : (n : ℕ) (ls : List (Node K)) → find n ls ≡ None → All (λ (i : ℕ). eqb n i ≡ false) (slots_of ls)
+  not_among : (n : ℕ) (ls : List (Node K)) → find n ls ≡ None → AllByRecursion (λ (i : ℕ). eqb n i ≡ false) (slots_of ls)
   not_among n [] e = tt
   not_among n (l ∷ ls) e = (missing_head n l ls e, not_among n ls (find_missing n l ls e))
 
@@ -85,7 +85,7 @@ module _ {K : Type 0} where
   slots_differ before (l ∷ ls) t = (not_among l.slot ls t.0.alone, slots_differ before ls t.1)
 
   -- there is a leaf in the slot of each
-  all_found : (ls : List (Node K)) → All (λ (l : Node K). (x : Node K) × (find l.slot ls ≡ Some x)) ls
+  all_found : (ls : List (Node K)) → AllByRecursion (λ (l : Node K). (x : Node K) × (find l.slot ls ≡ Some x)) ls
   all_found [] = tt
   all_found (l ∷ ls) = ((l, find_here l ls), All-weaker (λ (y : Node K). (x : Node K) × (find y.slot ls ≡ Some x)) (λ (y : Node K). (x : Node K) × (find y.slot (l ∷ ls) ≡ Some x)) (λ y z. more y.slot z.0 z.1) ls (all_found ls))
     where
@@ -113,7 +113,7 @@ module _ {K : Type 0} (before : K → K → Bool) (top : Item K) (m : Memory K) 
       let z = frame_read m u.frame _ u.framed.bounds in
       (u.frame, nth_below m.frames u.frame z.0 z.1, ap slot_of u.holds)
 
-  all_leaves : (P : ℕ → Type 0) → ((n : ℕ) (x : Node K) → find n w.leaves ≡ Some x → P n) → All P (slots_of w.leaves)
+  all_leaves : (P : ℕ → Type 0) → ((n : ℕ) (x : Node K) → find n w.leaves ≡ Some x → P n) → AllByRecursion P (slots_of w.leaves)
   all_leaves P h =
       All-map P (λ (l : Node K). l.slot) w.leaves
       (All-weaker (λ (l : Node K). (x : Node K) × (find l.slot w.leaves ≡ Some x)) (λ (l : Node K). P l.slot) (λ l z. h l.slot z.0 z.1) w.leaves (all_found w.leaves))

@@ -1,6 +1,6 @@
 -- a head is installed in the slot of a leaf
 use Rattle.std.proofs.Common.{◌≡◌, ℕ, suc, ◌*◌, ◌<◌, ◌≤◌, Bool, true, false, cond, eqb, ◌⊎◌, List, [], ◌∷◌, ◌++◌, length, set, Some, None, Option, sym, refl, ap, ◌∙◌, subst, inl, inr, ⊎_elim, arith, length-set}
-use Rattle.std.specs.List.{slice_get, AllByRecursion as All}
+use Rattle.std.specs.List.{slice_get, AllByRecursion}
 use Rattle.std.proofs.lemmas.Bool.{cases_Bool, both_ways, eqb-true, eq-eqb, ne_eqb}
 use Rattle.nodes.specs.declared.node.Frame.{Frame}
 use Rattle.nodes.specs.declared.node.FrameState.TheVariants as states
@@ -73,7 +73,7 @@ module _ {K : Type 0} (before : K → K → Bool) (top : Item K) where
 
   module _ (m : Memory K) (w : World K) (own own' : Head → Owner) (frames : List (Frame K)) (n : ℕ) (x : Head) (c : Chain K) (l : Node K) (sl : Slot) (related : Related before top m w own)
       (past : eqb n 0 ≡ false) (there : slice_get m.slots n ≡ Some sl) (found : find n w.leaves ≡ Some l) (installs : Installs Leaf m frames n x c own own') (small : length (replay before c) ≤ 64)
-      (more : List (Node K)) (revealed : All (Revealed m w own own') more) where
+      (more : List (Node K)) (revealed : AllByRecursion (Revealed m w own own') more) where
     abbrev pub installed : Memory K
     installed = with_frames (set_slot m n (Some x)) frames
 

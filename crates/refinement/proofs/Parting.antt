@@ -1,7 +1,7 @@
 -- entries in leaves of 64: the parts hold all items, fit, and stand in different slots; and what each leaf holds, by its
 -- number
 use Rattle.std.proofs.Common.{◌≡◌, ℕ, zero, suc, ◌+◌, ◌-◌, ◌*◌, ◌<◌, ◌≤◌, ◌⊎◌, List, [], ◌∷◌, ◌++◌, map, length, take, drop, Some, None, Option, sym, refl, ap, ◌∙◌, inl, inr, ⊎_elim, append-nil, arith, length-drop, take-append-drop, length-take}
-use Rattle.std.specs.List.{slice_get, AllByRecursion as All}
+use Rattle.std.specs.List.{slice_get, AllByRecursion}
 use Rattle.std.proofs.lemmas.List.{drop-drop, nil_from_length}
 use Rattle.std.proofs.lemmas.Bool.{cases_eq, eq-eqb, ne_eqb}
 use Rattle.image.specs.declared.entry.Entry.{Entry}
@@ -30,7 +30,7 @@ module _ {K : Type 0} where
   parts_fit (suc k) n xs [] l = l
   parts_fit (suc k) n xs (y ∷ ys) l = (l, parts_fit k (suc n) (y ∷ take 63 ys) (drop 63 ys) (let e = length-take 63 ys in omega arith))
 
-  parts_past : (k n s : ℕ) (ys : List (Item K)) → s < n → All (λ (q : Part K). s ≡ q.slot → ⊥) (parts_from k n ys)
+  parts_past : (k n s : ℕ) (ys : List (Item K)) → s < n → AllByRecursion (λ (q : Part K). s ≡ q.slot → ⊥) (parts_from k n ys)
   parts_past zero n s ys l = tt
   parts_past (suc k) n s [] l = tt
   parts_past (suc k) n s (y ∷ ys) l = ((λ e. omega arith), parts_past k (suc n) s (drop 63 ys) (omega arith))
@@ -173,7 +173,7 @@ module _ {K : Type 0} where
     pub leaf_found_lem : (k i n : ℕ) (x : Node K) → find n (leaves_from i k) ≡ Some x → (j : ℕ) × (x ≡ leaf_of j)
     leaf_found_lem k i n x e = all_find (λ (y : Node K). (j : ℕ) × (y ≡ leaf_of j)) n (leaves_from i k) x (each k i) e
       where
-        each : (c h : ℕ) → All (λ (y : Node K). (j : ℕ) × (y ≡ leaf_of j)) (leaves_from h c)
+        each : (c h : ℕ) → AllByRecursion (λ (y : Node K). (j : ℕ) × (y ≡ leaf_of j)) (leaves_from h c)
         each zero h = ((h, refl), tt)
         each (suc c) h = ((h, refl), each c (suc h))
 

@@ -1,6 +1,6 @@
 -- nothing that a seat can still read or has taken is free
 use Rattle.std.proofs.Common.{◌≡◌, ℕ, Bool, Some, Option, sym, ap, ◌∙◌, subst, ⊎_elim}
-use Rattle.std.specs.List.{slice_get, AllByRecursion as All}
+use Rattle.std.specs.List.{slice_get, AllByRecursion}
 use Rattle.std.proofs.lemmas.Bool.{cases_Bool}
 use Rattle.nodes.specs.declared.node.Delta.{Delta}
 use Rattle.nodes.specs.declared.node.Head.{Head}
@@ -49,7 +49,7 @@ module _ {K : Type 0} (before : K → K → Bool) (top : Item K) (m : Memory K) 
     reads : {g : Ground K} {h : Head} {c : Chain K} → Resolved before g (store_of m) (Seen own (view m w own).states s) h c → Reads h
     reads r x l = seen x (led_down before m x r l)
 
-    remembers : {i : Option ℕ} {b : Option (Item K)} → Best (store_of m) (Seen own (view m w own).states s) i b → All (InUse m) (remembered i)
+    remembers : {i : Option ℕ} {b : Option (Item K)} → Best (store_of m) (Seen own (view m w own).states s) i b → AllByRecursion (InUse m) (remembered i)
     remembers nothing = tt
     remembers (separator {i = i} d e p) = (seen (heads.Record i) p, tt)
 

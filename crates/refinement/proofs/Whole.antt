@@ -1,6 +1,6 @@
 -- the theorem, put together: an index over lent memory behaves as a plain map
 use Rattle.std.proofs.Common.{◌≡◌, ℕ, ◌-◌, ◌<◌, ◌≤◌, Bool, true, false, List, [], ◌∷◌, map, length, set, Some, sym, refl, ap, ◌∙◌, subst, zero-add, arith, length-set}
-use Rattle.std.specs.List.{slice_get, AllByRecursion as All}
+use Rattle.std.specs.List.{slice_get, AllByRecursion}
 use Rattle.std.proofs.lemmas.Bool.{lt-ltb}
 use Rattle.keys.specs.Order.{Lawful}
 use Rattle.image.specs.declared.entry.Entry.{Entry}
@@ -169,11 +169,11 @@ module _ {K : Type 0} (before : K → K → Bool) (law : Lawful K before) (z : S
     stands = record {
       served = follows.served;
       serves = follows.is;
-      possible = shown (All (λ (e : Event K). impossible e.answer ≡ false)) acts.possible;
+      possible = shown (AllByRecursion (λ (e : Event K). impossible e.answer ≡ false)) acts.possible;
       in_order = shown (λ (h : List (Event K)). InOrder 0 (operations h)) acts.in_order;
-      between = shown (λ (h : List (Event K)). All Between (operations h)) acts.between;
-      opens = shown (λ (h : List (Event K)). All (Opens h) (operations h)) acts.opens;
-      timed = shown (λ (h : List (Event K)). All (Timed h) (operations h)) acts.timed;
+      between = shown (λ (h : List (Event K)). AllByRecursion Between (operations h)) acts.between;
+      opens = shown (λ (h : List (Event K)). AllByRecursion (Opens h) (operations h)) acts.opens;
+      timed = shown (λ (h : List (Event K)). AllByRecursion (Timed h) (operations h)) acts.timed;
       once = shown (λ (h : List (Event K)). (s : ℕ) (f : Operation K → ℕ) → weigh s f (map (λ (p : Placed K). p.operation) (operations h)) ≡ weigh s f (ended_operations h)) acts.once;
       gives = subst (λ (p : Plain K). Gives before p (map asked (operations history))) plain (shown (λ (h : List (Event K)). Gives before (λ k. lookup before k (all_items (first_part es) (other_parts es))) (map asked (operations h))) acts.answers);
       entries = map entry_of (items before law z lawful begun.top memory reached follows.keeps);

@@ -1,7 +1,7 @@
 -- the theorem: an index over memory that is lent to its calls behaves as a plain map, whatever calls of the four seats
 -- come in which order
 use Rattle.std.specs.Prelude.{◌≡◌, ℕ, ◌<◌, ◌≤◌, Bool, true, false, List, [], ◌∷◌, map, length, Some, None, Option, ◌≢◌}
-use Rattle.std.specs.List.{slice_get, AllByRecursion as All}
+use Rattle.std.specs.List.{slice_get, AllByRecursion}
 use Rattle.image.specs.declared.entry.Entry.{Entry}
 use Rattle.nodes.specs.declared.node.Frame.{Frame}
 use Rattle.nodes.specs.declared.node.FrameState.TheVariants as states
@@ -76,8 +76,8 @@ module _ {K : Type 0} where
 
   -- nothing that a seat at this phase can still read or has taken is free
   pub record Safe (m : Memory K) (p : Phase) : Type 0 where
-    pub reads : All (λ (h : Head). (x : Head) → LeadsTo m.records h x → InUse m x) (readable p)
-    pub keeps : All (InUse m) (kept p)
+    pub reads : AllByRecursion (λ (h : Head). (x : Head) → LeadsTo m.records h x → InUse m x) (readable p)
+    pub keeps : AllByRecursion (InUse m) (kept p)
 
 module _ {K : Type 0} (before : K → K → Bool) where
   -- a report of seat s now tells the numbers of its swaps in the history, up to the largest number of 64 bits, and how
@@ -100,13 +100,13 @@ module _ {K : Type 0} (before : K → K → Bool) where
     pub served : Served K
     pub serves : serve before z m cs ≡ Some served
     -- no call answers 15
-    pub possible : All (λ (e : Event K). impossible e.answer ≡ false) served.history
+    pub possible : AllByRecursion (λ (e : Event K). impossible e.answer ≡ false) served.history
     -- the moments of the operations that ended with a map answer ascend, so no two are the same; each comes after the
     -- begin and not after the end, and begin, moment and end are the calls that they should be
     pub in_order : InOrder 0 (operations served.history)
-    pub between : All Between (operations served.history)
-    pub opens : All (Opens served.history) (operations served.history)
-    pub timed : All (Timed served.history) (operations served.history)
+    pub between : AllByRecursion Between (operations served.history)
+    pub opens : AllByRecursion (Opens served.history) (operations served.history)
+    pub timed : AllByRecursion (Timed served.history) (operations served.history)
     -- these are the operations that ended with a map answer, each exactly once
     pub once : (s : ℕ) (f : Operation K → ℕ) → weigh s f (map (λ (p : Placed K). p.operation) (operations served.history)) ≡ weigh s f (ended_operations served.history)
     -- in the order of their moments, their answers are those of the plain map
