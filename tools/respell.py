@@ -35,7 +35,7 @@ def sources(root):
 
 def of_function(path):
     """Whether a proof file is that of one function: its own names are those that the checker asks for."""
-    return path.endswith(("Answers.antt", "Invariants.antt", "Proof.antt"))
+    return "/proofs/" in path and path.endswith(("Answers.antt", "Invariants.antt", "Proof.antt"))
 
 
 def plain(name):
@@ -138,6 +138,8 @@ def main():
         if file:
             with open(file, "w", encoding="utf-8") as f:
                 f.writelines(f"{a} {b}\n" for a, b in sorted(names.items()))
+    if not any(t in names and "-" not in t and HUMP.search(t) for text in texts.values() for t in TOKEN.findall(text)):
+        sys.exit("respell: none of the names is there in its old spelling: nothing to do")
     changed = 0
     for p, t in texts.items():
         skip = outside(t, ours)

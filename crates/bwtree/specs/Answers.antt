@@ -6,25 +6,25 @@ use Rattle.bwtree.specs.declared.answer.Refusal.{Refusal}
 use Rattle.bwtree.specs.declared.answer.Refusal.TheVariants as refusals
 
 -- a call that is turned down
-abbrev pub refusalNumber : Refusal → ℕ
-refusalNumber refusals.NoSuchSeat = 1
-refusalNumber refusals.SeatOpen = 2
-refusalNumber refusals.SeatIdle = 3
-refusalNumber refusals.WrongSizes = 4
-refusalNumber refusals.Impossible = 15
+abbrev pub refusal_number : Refusal → ℕ
+refusal_number refusals.NoSuchSeat = 1
+refusal_number refusals.SeatOpen = 2
+refusal_number refusals.SeatIdle = 3
+refusal_number refusals.WrongSizes = 4
+refusal_number refusals.Impossible = 15
 
 -- an operation that ends refused
-abbrev pub endNumber : End → Option ℕ
-endNumber ends.Found = None
-endNumber ends.Missing = None
-endNumber ends.Present = None
-endNumber ends.Stored = None
-endNumber ends.Removed = None
-endNumber ends.Consolidated = None
-endNumber ends.Tidy = None
-endNumber ends.Split = None
-endNumber ends.Small = None
-endNumber ends.LeafFull = Some 11
-endNumber ends.TooFewRecords = Some 12
-endNumber ends.NoFrame = Some 13
-endNumber ends.NoSlot = Some 14
+abbrev pub end_number : End → Option ℕ
+end_number ends.Found = None
+end_number ends.Missing = None
+end_number ends.Present = None
+end_number ends.Stored = None
+end_number ends.Removed = None
+end_number ends.Consolidated = None
+end_number ends.Tidy = None
+end_number ends.Split = None
+end_number ends.Small = None
+end_number ends.LeafFull = Some 11
+end_number ends.TooFewRecords = Some 12
+end_number ends.NoFrame = Some 13
+end_number ends.NoSlot = Some 14

@@ -1,5 +1,5 @@
 ghost use Rattle.std.specs.Prelude.{◌≡◌};
-ghost use Rattle.bwtree.specs.Answers.{endNumber, refusalNumber};
+ghost use Rattle.bwtree.specs.Answers.{end_number, refusal_number};
 
 /// How an operation ended.
 #[derive(Clone, Copy)]
@@ -25,7 +25,7 @@ pub enum End {
 impl End {
     /// The number of a refused ending.
     pub fn number(self) -> Option<u8>
-        ensures { result ≡ endNumber self }
+        ensures { result ≡ end_number self }
     {
         match self {
             End::Found => None,
@@ -81,7 +81,7 @@ pub enum Refusal {
 
 impl Refusal {
     pub fn number(self) -> u8
-        ensures { result ≡ refusalNumber self }
+        ensures { result ≡ refusal_number self }
     {
         match self {
             Refusal::NoSuchSeat => 1,
