@@ -138,8 +138,8 @@ def main():
         if file:
             with open(file, "w", encoding="utf-8") as f:
                 f.writelines(f"{a} {b}\n" for a, b in sorted(names.items()))
-    if not any(t in names and "-" not in t and HUMP.search(t) for text in texts.values() for t in TOKEN.findall(text)):
-        sys.exit("respell: none of the names is there in its old spelling: nothing to do")
+    if any(t.endswith("_lem") and t[:-4] in SPELLED for text in texts.values() for t in TOKEN.findall(text)):
+        sys.exit("respell: the names are spelled already")
     changed = 0
     for p, t in texts.items():
         skip = outside(t, ours)

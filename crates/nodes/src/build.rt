@@ -72,7 +72,7 @@ fn fill_root<K: Ordered>(
     floor: usize,
     top: usize,
 ) -> bool
-    ensures { Promised (carried_out (filled_root K.Ordered.before (deltas_from depth records.now head) keys.entry.now values.old first start stop floor top)) (record { arrays = record { keys = keys.exit.now; values = values.new }; answer = result }) }
+    ensures { Promised (carried_out (filled_root K.Ordered.before (deltas_from depth records.now head) keys.old values.old first start stop floor top)) (record { arrays = record { keys = keys.new; values = values.new }; answer = result }) }
 {
     if floor >= top {
         return false;
@@ -107,7 +107,7 @@ fn fill_level<K: Ordered>(
     top: usize,
     whole: bool,
 ) -> bool
-    ensures { Promised (filled_at K.Ordered.before level (deltas_from depth records.now head) keys.entry.now values.old start stop floor top whole) (record { arrays = record { keys = keys.exit.now; values = values.new }; answer = result }) }
+    ensures { Promised (filled_at K.Ordered.before level (deltas_from depth records.now head) keys.old values.old start stop floor top whole) (record { arrays = record { keys = keys.new; values = values.new }; answer = result }) }
 {
     match level {
         Level::Leaf => {
@@ -170,7 +170,7 @@ pub fn build<K: Ordered>(
     first: usize,
     target: usize,
 ) -> bool
-    ensures { Promised (carried_out (built K.Ordered.before level records.now frames.now keys.entry.now values.old head first target)) (record { arrays = record { keys = keys.exit.now; values = values.new }; answer = result }) }
+    ensures { Promised (carried_out (built K.Ordered.before level records.now frames.now keys.old values.old head first target)) (record { arrays = record { keys = keys.new; values = values.new }; answer = result }) }
 {
     let Some(source) = source_of(records, frames, keys, values, head) else {
         return false;

@@ -176,7 +176,7 @@ pub(crate) fn fill<K: Ordered>(
     floor: usize,
     top: usize,
 )
-    ensures { Promised (filled K.Ordered.before (deltas_from depth records.now head) keys.entry.now values.old start stop floor top) (record { keys = keys.exit.now; values = values.new }) }
+    ensures { Promised (filled K.Ordered.before (deltas_from depth records.now head) keys.old values.old start stop floor top) (record { keys = keys.new; values = values.new }) }
 {
     let mut cursor: Cursor<K> = Cursor {
         frame: stop,

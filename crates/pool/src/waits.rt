@@ -72,8 +72,8 @@ fn wait_on<K: Copy>(
     head: Head,
     count: usize,
 )
-    ensures { ◌≡◌ {A = Pools K} (record { records = records.exit.now; frames = frames.new })
-        (waits_on (record { records = records.entry.now; frames = frames.old }) f seats head count (anyone seats)) }
+    ensures { ◌≡◌ {A = Pools K} (record { records = records.new; frames = frames.new })
+        (waits_on (record { records = records.old; frames = frames.old }) f seats head count (anyone seats)) }
 {
     if any_marked(seats) {
         set_state(
@@ -93,8 +93,8 @@ fn wait_on<K: Copy>(
 
 /// A seat leaves the waits of one frame.
 fn leave_frame<K: Copy>(records: &mut [Record<K>], frames: &mut [Frame<K>], seat: usize, f: usize)
-    ensures { ◌≡◌ {A = Pools K} (record { records = records.exit.now; frames = frames.new })
-        (left_frame (record { records = records.entry.now; frames = frames.old }) seat f (slice_get frames.old f)) }
+    ensures { ◌≡◌ {A = Pools K} (record { records = records.new; frames = frames.new })
+        (left_frame (record { records = records.old; frames = frames.old }) seat f (slice_get frames.old f)) }
 {
     let Some(frame) = peek(frames, f) else {
         return;
@@ -112,8 +112,8 @@ fn leave_frame<K: Copy>(records: &mut [Record<K>], frames: &mut [Frame<K>], seat
 
 /// A seat whose operation has ended leaves all waits, and what then waits for nobody is free.
 pub fn leave<K: Copy>(records: &mut [Record<K>], frames: &mut [Frame<K>], seat: usize)
-    ensures { ◌≡◌ {A = Pools K} (record { records = records.exit.now; frames = frames.new })
-        (leaves (record { records = records.entry.now; frames = frames.old }) seat (length frames.old)) }
+    ensures { ◌≡◌ {A = Pools K} (record { records = records.new; frames = frames.new })
+        (leaves (record { records = records.old; frames = frames.old }) seat (length frames.old)) }
 {
     for f in 0..frames.len() {
         leave_frame(records, frames, seat, f);

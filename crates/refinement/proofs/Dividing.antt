@@ -107,7 +107,7 @@ module _ {K : Type 0} (before : K → K → Bool) (top : Item K) (m : Memory K) 
       free_records = λ a o. keep (λ z. z ≡ Free) (heads.Record a) (held_free (Held s) s refl) o;
       free_frames = λ a y b o. keep (λ z. z ≡ Free) (heads.Frame a) (held_free (Held s) s refl) (related.free_frames a y b o);
       groups = λ a y marks g c b o. let z = related.groups a y marks g c b o in record {
-        ground = z.ground;
+        grounding = z.grounding;
         chain = z.chain;
         frame = keep (λ v. v ≡ Group a) (heads.Frame a) (mine_group s a (Held s) (inr refl)) z.frame;
         count = z.count;

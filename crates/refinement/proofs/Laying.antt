@@ -127,7 +127,7 @@ module _ {K : Type 0} (before : K → K → Bool) (top : Item K) (m : Memory K) 
 
       group_laid : (j : ℕ) (h : Head) (n : ℕ) → eqb j f ≡ false → Grouped before (store_of m) own j h n → Grouped before (store_of laid_out) taken j h n
       group_laid j h n q z = record {
-        ground = z.ground;
+        grounding = z.grounding;
         chain = z.chain;
         count = z.count;
         resolved = resolved_laid (λ o. o ≡ Group j) (mine_group s j (own (heads.Frame f)) mine) z.resolved;

@@ -101,7 +101,7 @@ module _ {K : Type 0} (before : K → K → Bool) (top : Item K) where
     }
 
     group_kept : (j : ℕ) (h : Head) (n : ℕ) → eqb j f ≡ false → Grouped before (store_of m) own j h n → Grouped before (store_of after) own' j h n
-    group_kept j h n q g = record { ground = g.ground; chain = g.chain; resolved = moved (handed.groups j q) g.resolved; frame = handed.groups j q (heads.Frame j) g.frame; count = g.count }
+    group_kept j h n q g = record { grounding = g.grounding; chain = g.chain; resolved = moved (handed.groups j q) g.resolved; frame = handed.groups j q (heads.Frame j) g.frame; count = g.count }
 
     pub related_pooled : Related before top after w own'
     related_pooled = record {

@@ -117,7 +117,7 @@ module _ {K : Type 0} (before : K → K → Bool) (top : Item K) (m : Memory K) 
         free_records = λ i e. keep (λ z. z ≡ Free) (heads.Record i) (held_free (own (heads.Record j)) s held) e;
         free_frames = related.free_frames;
         groups = λ f y marks g c e q. let z = related.groups f y marks g c e q in record {
-          ground = z.ground;
+          grounding = z.grounding;
           chain = z.chain;
           frame = z.frame;
           count = z.count;

@@ -142,10 +142,10 @@ module _ {K : Type 0} (before : K → K → Bool) (top : Item K) (m : Memory K) 
       group_here_lem j k t i z p =
           let a : h ≡ t = cc in
           let d : (carried g c).depth ≡ i = cc in
-          let r : Grouped before (store_of m) replaced b h (carried g c).depth = record { ground = g; chain = c; resolved = resolved_weaker in_group old; frame = in_group (heads.Frame b) under; count = refl } in
+          let r : Grouped before (store_of m) replaced b h (carried g c).depth = record { grounding = g; chain = c; resolved = resolved_weaker in_group old; frame = in_group (heads.Frame b) under; count = refl } in
           subst (λ (v : ℕ). Grouped before (store_of m) replaced v t i) (sym z) (subst (λ (v : Head). Grouped before (store_of m) replaced b v i) a (subst (λ (v : ℕ). Grouped before (store_of m) replaced b h v) d r))
 
       group_kept : (j : ℕ) (t : Head) (i : ℕ) → Grouped before (store_of m) own j t i → Grouped before (store_of m) replaced j t i
       group_kept j t i z =
           let still = λ (v : Head) (p : own v ≡ Group j). keep (λ o. o ≡ Group j) v (mine_group s j (shifted (heads.Frame f)) (inr still_held)) (retired_group n b j (own v) p) in
-          record { ground = z.ground; chain = z.chain; count = z.count; resolved = resolved_weaker still z.resolved; frame = still (heads.Frame j) z.frame }
+          record { grounding = z.grounding; chain = z.chain; count = z.count; resolved = resolved_weaker still z.resolved; frame = still (heads.Frame j) z.frame }

@@ -112,7 +112,7 @@ module _ {K : Type 0} (before : K → K → Bool) (top : Item K) (m : Memory K) 
     free_records = λ j r e q. ⊎_elim (λ z. free_here_lem j r z.0 z.1 q) (λ z. owned_other j z.0 (related.free_records j r z.1 q)) (nth_set_cases m.records i j (record { free = b; delta = d }) r e);
     free_frames = related.free_frames;
     groups = λ f x marks h n e q. let g = related.groups f x marks h n e q in record {
-      ground = g.ground;
+      grounding = g.grounding;
       chain = g.chain;
       resolved = resolved_filled (λ z. z ≡ Group f) (mine_group s f (own (heads.Record i)) mine) g.resolved;
       frame = g.frame;

@@ -160,11 +160,11 @@ module _ {K : Type 0} (before : K → K → Bool) where
 
   -- a replaced chain: its head leads through records of this group to the frame
   pub record Grouped (t : Store K) (own : Head → Owner) (f : ℕ) (h : Head) (n : ℕ) : Type 0 where
-    pub ground : Ground K
+    pub grounding : Ground K
     pub chain : Chain K
-    pub resolved : Resolved before ground t (λ x. own x ≡ Group f) h chain
+    pub resolved : Resolved before grounding t (λ x. own x ≡ Group f) h chain
     pub frame : own (heads.Frame f) ≡ Group f
-    pub count : (carried ground chain).depth ≡ n
+    pub count : (carried grounding chain).depth ≡ n
 
   -- the item arrays have room for every frame; there are four seats, and no more records than an index may have
   pub record Sized (m : Memory K) : Type 0 where
