@@ -95,12 +95,12 @@ free_waiting marks h n q = let z : ◌≡◌ {A = ℕ} 0 1 = cc in omega arith
 
 -- ---- a seat leaves the waits of one frame
 
-module _ {K : Type 0} (before : K → K → Bool) (top : Item K) (m : Memory K) (w : World K) (s : ℕ) (it : Seat K) (at_s : slice_get m.seats s ≡ Some it) (is_idle_lem : it.phase ≡ phases.Idle) where
+module _ {K : Type 0} (before : K → K → Bool) (top : Item K) (m : Memory K) (w : World K) (s : ℕ) (it : Seat K) (at_s : slice_get m.seats s ≡ Some it) (seat_idle : it.phase ≡ phases.Idle) where
   -- a busy seat is another
   pub busy_other : (u : ℕ) (x : Seat K) → slice_get m.seats u ≡ Some x → busy x.phase ≡ true → eqb u s ≡ false
   busy_other u x e o = ne_eqb u s (λ q.
       let d : x ≡ it = some_same (sym e ∙ ap (slice_get m.seats) q ∙ at_s) in
-      both_ways (busy x.phase) (ap (λ (y : Seat K). busy y.phase) d ∙ ap busy is_idle_lem) o)
+      both_ways (busy x.phase) (ap (λ (y : Seat K). busy y.phase) d ∙ ap busy seat_idle) o)
 
   pub record Left (p : Pools K) : Type 0 where
     pub owner : Head → Owner

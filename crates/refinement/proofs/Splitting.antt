@@ -208,7 +208,7 @@ module _ {K : Type 0} (before : K → K → Bool) (law : Lawful K before) (top :
 
   -- ---- a split takes what is free, or ends
 
-  module _ (granted : Granted) (grants_frame_lem : granted.frame ≡ is_there (free_frame_for m it)) (grants_slot_lem : granted.slot ≡ free_slot_for m it) (grants_records : granted.records ≡ two_free m it) where
+  module _ (granted : Granted) (grants_frame : granted.frame ≡ is_there (free_frame_for m it)) (grants_slot : granted.slot ≡ free_slot_for m it) (grants_records : granted.records ≡ two_free m it) where
     module _ (large : ltb a.size 2 ≡ false) (f : ℕ) (free_f : free_frame_for m it ≡ Some f) where
       module _ (target : ℕ) (free_t : free_slot_for m it ≡ Some target) where
         abbrev goes_or_ends : Bool → Act K
@@ -239,12 +239,12 @@ module _ {K : Type 0} (before : K → K → Bool) (law : Lawful K before) (top :
     split_frame_lem : ltb a.size 2 ≡ false → (o : Option ℕ) → free_frame_for m it ≡ o
         → Follows before top (split_frame before m s it n h a o) (perform before w s (cond (is_there o) (split_slot before granted x (offered w granted.slot)) (ends_at ends.NoFrame 0 x.chain)))
     split_frame_lem l None e = follows_ended before top m w own related s it at_s it same _ ends.NoFrame 0 a.depth a.size
-    split_frame_lem l (Some f) e = rw grants_slot_lem (split_slot_lem l f e (free_slot_for m it) refl)
+    split_frame_lem l (Some f) e = rw grants_slot (split_slot_lem l f e (free_slot_for m it) refl)
 
     small_or : (b : Bool) → ltb a.size 2 ≡ b
         → Follows before top (splitting_in before m s it n h a b) (perform before w s (cond b (ends_at ends.Small 0 x.chain) (cond granted.frame (split_slot before granted x (offered w granted.slot)) (ends_at ends.NoFrame 0 x.chain))))
     small_or true e = follows_ended before top m w own related s it at_s it same _ ends.Small 0 a.depth a.size
-    small_or false e = rw grants_frame_lem (split_frame_lem e (free_frame_for m it) refl)
+    small_or false e = rw grants_frame (split_frame_lem e (free_frame_for m it) refl)
 
     -- the build of a split
     pub leaf_split : Follows before top (splitting_in before m s it n h a (ltb a.size 2)) (perform before w s (splitting before w granted x))
