@@ -3,12 +3,13 @@
 
 usage: python3 tools/respell.py [--map FILE] [FOLDER]
 
-Run after the kit's port.py, in the folder of a repository (or on the FOLDER named). It renames what the .antt files define,
-and the ghost members, aliases and bound variables beside them: a hump becomes an underscore (firstKey, first_key), and so does
-a dash (at-rest, at_rest), but for a dash between the names of two definitions (length-big_endian), and a lemma that would have its function's name ends in _lem. Types, modules and
-variants keep their capitals; functions of src/, strings, comments' plain words, inputs and outputs keep their text.
-With --map it takes the names from FILE, old and new on a line, if FILE is there, and writes them into it otherwise, so that two trees are
-spelled alike. It says which names would fall together in a file.
+Run once, after the kit's port.py, in the folder of a repository (or on the FOLDER named). It renames what the .antt files
+define, and the ghost members, aliases and bound variables beside them: a hump becomes an underscore (firstKey, first_key),
+and so does a dash (at-rest, at_rest), but for a dash between the names of two definitions (length-big_endian). A lemma that
+would have its function's name ends in _lem. Types, modules and variants keep their capitals; functions of src/, strings,
+comments' plain words, inputs and outputs keep their text.
+With --map it takes the names from FILE, old and new on a line, if FILE is there, and writes them into it otherwise, so that
+two trees are spelled alike. It says which names would fall together in a file.
 """
 
 import collections
@@ -53,7 +54,8 @@ def defined(path, text):
             names.add(m[1])
         body = "\n".join(m[1] for m in re.finditer(r"\{([^{}]*λ[^{}]*)\}", body))
     else:
-        for m in re.finditer(r"^\s*(?:(?:pub|abbrev|unfoldable|private|data|record|ruleset)\s+)*([A-Za-z][\w' -]*?) :(?=\s)", body, re.M):
+        words = r"^\s*(?:(?:pub|abbrev|unfoldable|private|data|record|ruleset)\s+)*([A-Za-z][\w' -]*?) :(?=\s)"
+        for m in re.finditer(words, body, re.M):
             names.update(m[1].split())
             tops.update(m[1].split())
         for m in re.finditer(r"^\s*(?:pub |abbrev |unfoldable )*(?:data|record) ([\w'-]+)", body, re.M):

@@ -18,7 +18,7 @@ use Rattle.bwtree.specs.declared.call.Call.{Call}
 use Rattle.bwtree.specs.declared.call.Call.TheVariants as calls
 use Rattle.laws.specs.Calls.{Did, Opened, ReadLeaf, Installed, Failed, Otherwise, Event, seat_of}
 use Rattle.laws.specs.Histories.{one_installed}
-use Rattle.laws.specs.Worlds.{Call as Asked, Begin, Step, Tell}
+use Rattle.laws.specs.Worlds.{Call as CallWithoutMemory, Begin, Step, Tell}
 
 -- a begin opens an operation where it is not refused
 abbrev pub did_begin : Answer → Did
@@ -30,7 +30,7 @@ did_begin (answers.Refused r) = Otherwise
 
 module _ {K : Type 0} where
   -- the same call of the index without memory
-  abbrev pub without_memory : Call K → Asked K
+  abbrev pub without_memory : Call K → CallWithoutMemory K
   without_memory (calls.Begin s r) = Begin s r
   without_memory (calls.Step s) = Step s
   without_memory (calls.Report s) = Tell s

@@ -38,7 +38,7 @@ pub fn new_index_follows<K: Ordered>() -> u8
     0
 }
 
-/// For every kind of key: from every start, after every list of calls.
+/// For every kind of key: an index over lent memory behaves as a plain map, from every start and after every list of calls.
 pub fn index_stands<K: Ordered>() -> u8
     ensures { IndexStands K.Ordered.before }
 {
