@@ -7,3 +7,4 @@ pub mod Builds
 pub mod Steps
 pub mod Reports
 pub mod Calls
+pub mod Lent

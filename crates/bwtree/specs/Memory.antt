@@ -1,5 +1,5 @@
 -- the memory that the caller lends, and how a rule changes it
-use Rattle.std.specs.Prelude.{ℕ, ◌+◌, ◌-◌, ◌^◌, min, List, length, Option, slice_set}
+use Rattle.std.specs.Prelude.{ℕ, ◌+◌, ◌-◌, ◌^◌, min, List, length, Option, Result, Ok, slice_set}
 use Rattle.std.specs.List.{slice_get}
 use Rattle.nodes.specs.declared.node.Frame.{Frame}
 use Rattle.nodes.specs.declared.node.Head.{Head}
@@ -11,6 +11,7 @@ use Rattle.pool.specs.Waits.{Pools, leaves}
 use Rattle.bwtree.specs.declared.answer.Answer.{Answer}
 use Rattle.bwtree.specs.declared.answer.Answer.TheVariants as answers
 use Rattle.bwtree.specs.declared.answer.End.{End}
+use Rattle.bwtree.specs.declared.answer.Refusal.{Refusal}
 use Rattle.bwtree.specs.declared.seat.Cursors.{Cursors}
 use Rattle.bwtree.specs.declared.seat.Phase.{Phase}
 use Rattle.bwtree.specs.declared.seat.Phase.TheVariants as phases
@@ -27,22 +28,13 @@ pub record Memory (K : Type 0) : Type 0 where
 -- what a rule gives: the memory after the call, and its answer
 pub record Outcome (K : Type 0) : Type 0 where
   pub memory : Memory K
-  pub answer : Answer
+  pub answer : Result Answer Refusal
 
 -- a counter one higher; it stays at the largest number of 64 bits
 abbrev pub risen : ℕ → ℕ
 risen n = min (n + 1) (2 ^ 64 - 1)
 
 module _ {K : Type 0} where
-  -- the memory and the outcome of a call, from the lists that the lent arrays hold
-  abbrev pub memory_of : List Slot → List (Record K) → List (Frame K) → List K → List ℕ → List (Seat K) → Memory K
-  memory_of slots records frames keys values seats =
-      record { slots = slots; records = records; frames = frames; keys = keys; values = values; seats = seats }
-
-  abbrev pub outcome_of : List Slot → List (Record K) → List (Frame K) → List K → List ℕ → List (Seat K) → Answer → Outcome K
-  outcome_of slots records frames keys values seats answer =
-      record { memory = memory_of slots records frames keys values seats; answer = answer }
-
   abbrev pub with_slots : Memory K → List Slot → Memory K
   with_slots m xs = record { slots = xs; records = m.records; frames = m.frames; keys = m.keys; values = m.values; seats = m.seats }
 
@@ -89,7 +81,7 @@ module _ {K : Type 0} where
 
   -- the operation goes on with a phase
   abbrev pub goes : Memory K → ℕ → Seat K → Phase → Outcome K
-  goes m s it p = record { memory = set_seat m s (at_phase it p); answer = answers.Going }
+  goes m s it p = record { memory = set_seat m s (at_phase it p); answer = Ok answers.Going }
 
   abbrev pub idle : Memory K → ℕ → Seat K → Memory K
   idle m s it = set_seat m s (at_phase it phases.Idle)
@@ -103,7 +95,7 @@ module _ {K : Type 0} where
 
   -- an ending, where the seat is idle already: end, value, depth and size
   abbrev pub left : Memory K → ℕ → End → ℕ → ℕ → ℕ → Outcome K
-  left m s e v d n = record { memory = leaving m s; answer = answers.Ended (record { end = e; value = v; depth = d; size = n }) }
+  left m s e v d n = record { memory = leaving m s; answer = Ok (answers.Ended (record { end = e; value = v; depth = d; size = n })) }
 
   -- the operation ends
   abbrev pub ended : Memory K → ℕ → Seat K → End → ℕ → ℕ → ℕ → Outcome K

@@ -1,5 +1,5 @@
 -- report: a seat's counters, and what every record of the index is in use for
-use Rattle.std.specs.Prelude.{ℕ, ◌+◌, ◌-◌, ◌^◌, min, cond, List, [], ◌∷◌, length, Some, None, Option, ◌==◌, nat_lt}
+use Rattle.std.specs.Prelude.{ℕ, ◌+◌, ◌-◌, ◌^◌, min, cond, List, [], ◌∷◌, length, Some, None, Option, Ok, ◌==◌, nat_lt}
 use Rattle.std.specs.List.{slice_get}
 use Rattle.nodes.specs.declared.node.Frame.{Frame}
 use Rattle.nodes.specs.declared.node.FrameState.{FrameState}
@@ -74,14 +74,14 @@ module _ {K : Type 0} where
   abbrev pub report_of : Memory K → Seat K → Outcome K
   report_of m it = record {
     memory = m;
-    answer = answers.Reported (record {
+    answer = Ok (answers.Reported (record {
       installed = it.installed;
       failed = it.failed;
       free = free_in m;
       chained = chained_in m;
       held = held_all m;
       waiting = waiting_all m;
-    });
+    }));
   }
 
   -- impossible where the four numbers are not all the records together

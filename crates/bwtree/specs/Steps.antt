@@ -1,5 +1,5 @@
 -- begin and step, with their refusals in order
-use Rattle.std.specs.Prelude.{ℕ, ◌*◌, Bool, true, false, cond, ◌&&◌, length, Some, Option, ◌==◌, nat_le, nat_lt}
+use Rattle.std.specs.Prelude.{ℕ, ◌*◌, Bool, true, false, cond, ◌&&◌, length, Some, Option, Ok, Err, ◌==◌, nat_le, nat_lt}
 use Rattle.std.specs.List.{slice_get}
 use Rattle.nodes.specs.Chains.{bind}
 use Rattle.bwtree.specs.declared.answer.Answer.TheVariants as answers
@@ -28,7 +28,7 @@ module _ {K : Type 0} where
       && (length m.keys == 64 * z.frames && (length m.values == 64 * z.frames && length m.seats == 4))))
 
   abbrev pub refused : Memory K → Refusal → Outcome K
-  refused m r = record { memory = m; answer = answers.Refused r }
+  refused m r = record { memory = m; answer = Err r }
 
   -- ---- begin
 
@@ -37,7 +37,7 @@ module _ {K : Type 0} where
 
   abbrev pub begin_on : Memory K → ℕ → Request K → Seat K → Bool → Outcome K
   begin_on m s r it true = refused m refusals.SeatOpen
-  begin_on m s r it false = record { memory = set_seat m s (opened it r); answer = answers.Begun }
+  begin_on m s r it false = record { memory = set_seat m s (opened it r); answer = Ok answers.Begun }
 
   abbrev pub begin_at : Memory K → ℕ → Request K → Option (Outcome K)
   begin_at m s r = bind (slice_get m.seats s) (λ it. Some (begin_on m s r it (is_open it.phase)))

@@ -126,6 +126,13 @@ module _ {K : Type 0} (before : K → K → Bool) where
   slot_of (Some b) None first = b.value
   slot_of (Some b) (Some c) first = cond (before c.key b.key) b.value c.value
 
+  -- the leaf read after the root's frame
+  abbrev pub past_frame : Memory K → K → Option ℕ → ℕ → Option Phase
+  past_frame m k best f =
+      bind (slice_get m.frames f) (λ x.
+      bind (separators_in_frame before k m.keys m.values f x.attributes.size) (λ found.
+      Some (phases.LeafRead (slot_of (separator_at m.records best) found.best found.first))))
+
   abbrev pub root_look : Memory K → ℕ → Seat K → K → Option ℕ → Head → Option (Outcome K)
   root_look m s it k best (heads.Record i) = bind (past_record m.records k best i) (λ p. Some (goes m s it p))
   root_look m s it k best (heads.Frame f) =

@@ -2,7 +2,7 @@ ghost use Rattle.std.specs.Prelude.{◌≡◌};
 ghost use Rattle.bwtree.specs.Answers.{end_number, refusal_number};
 
 /// How an operation ended.
-#[derive(Clone, Copy)]
+#[derive(Clone, Copy, Debug, PartialEq, Eq)]
 pub enum End {
     Found,
     Missing,
@@ -24,31 +24,25 @@ pub enum End {
 
 impl End {
     /// The number of a refused ending.
+    // No TryFrom: that an ending has no number is no error.
     pub fn number(self) -> Option<u8>
         ensures { result ≡ end_number self }
     {
         match self {
-            End::Found => None,
-            End::Missing => None,
-            End::Present => None,
-            End::Stored => None,
-            End::Removed => None,
-            End::Consolidated => None,
-            End::Tidy => None,
-            End::Split => None,
-            End::Small => None,
             End::LeafFull => Some(11),
             End::TooFewRecords => Some(12),
             End::NoFrame => Some(13),
             End::NoSlot => Some(14),
+            _ => None,
         }
     }
 }
 
 /// An ending with its value, and depth and size of the head that the operation last read or installed.
-#[derive(Clone, Copy)]
+#[derive(Clone, Copy, Debug, PartialEq, Eq)]
 pub struct Ending {
     pub end: End,
+    /// By the rules a number in every ending, 0 where the end has no value to tell.
     pub value: u64,
     pub depth: usize,
     pub size: usize,
@@ -56,7 +50,7 @@ pub struct Ending {
 
 /// A seat's counters, and how many records of the whole index are free, in a chain that a slot leads to, held by an
 /// operation, and waiting.
-#[derive(Clone, Copy)]
+#[derive(Clone, Copy, Debug, PartialEq, Eq)]
 pub struct Report {
     pub installed: u64,
     pub failed: u64,
@@ -66,38 +60,33 @@ pub struct Report {
     pub waiting: usize,
 }
 
-/// Why a call is turned down. All but `Impossible` leave everything as it was.
-#[derive(Clone, Copy)]
-pub enum Refusal {
-    /// The seat is above 3.
-    NoSuchSeat,
-    SeatOpen,
-    SeatIdle,
-    /// A size or the length of an array is wrong.
-    WrongSizes,
-    /// The memory has numbers that an index never writes.
-    Impossible,
-}
-
-impl Refusal {
-    pub fn number(self) -> u8
-        ensures { result ≡ refusal_number self }
-    {
-        match self {
-            Refusal::NoSuchSeat => 1,
-            Refusal::SeatOpen => 2,
-            Refusal::SeatIdle => 3,
-            Refusal::WrongSizes => 4,
-            Refusal::Impossible => 15,
-        }
-    }
-}
-
-#[derive(Clone, Copy)]
+/// What a call answers.
+#[derive(Clone, Copy, Debug, PartialEq, Eq)]
 pub enum Answer {
     Begun,
     Going,
     Ended(Ending),
     Reported(Report),
-    Refused(Refusal),
+}
+
+// Not the refusals of images: a call of an index and the bytes of an image are refused for causes of their own.
+/// Why a call is turned down, with the number by which that is known. All but `Impossible` leave everything as it was.
+#[derive(Clone, Copy, Debug, PartialEq, Eq)]
+pub enum Refusal {
+    /// The seat is above 3.
+    NoSuchSeat = 1,
+    SeatOpen = 2,
+    SeatIdle = 3,
+    /// A size or the length of an array is wrong.
+    WrongSizes = 4,
+    /// The memory has numbers that an index never writes.
+    Impossible = 15,
+}
+
+impl From<Refusal> for u8 {
+    ghost from_gives = { λ refusal number. number ≡ refusal_number refusal };
+
+    fn from(refusal: Refusal) -> u8 {
+        refusal as u8
+    }
 }

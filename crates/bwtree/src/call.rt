@@ -1,43 +1,32 @@
 //! A call as a value, and the function that makes it.
 
 ghost use Rattle.bwtree.specs.Calls.{call as call_rule};
-ghost use Rattle.bwtree.specs.Memory.{memory_of, outcome_of};
-ghost use Rattle.nodes.specs.Build.{Promised};
+ghost use Rattle.bwtree.specs.Lent.{Follows, held};
 
-use crate::answer::Answer;
-use crate::report::report;
-use crate::seat::{Request, Seat};
+use crate::answer::{Answer, Refusal};
+use crate::memory::LentMemory;
+use crate::seat::Request;
 use crate::sizes::Sizes;
-use crate::step::{begin, step};
 use keys::order::Ordered;
-use nodes::node::{Frame, Record, Slot};
 
 /// A call of an index in service, with the number of its seat.
-#[derive(Clone, Copy)]
+#[derive(Clone, Copy, Debug, PartialEq, Eq)]
 pub enum Call<K> {
     Begin(usize, Request<K>),
     Step(usize),
     Report(usize),
 }
 
-/// Makes the call.
-pub fn make_call<K: Ordered>(
-    sizes: Sizes,
-    slots: &mut [Slot],
-    records: &mut [Record<K>],
-    frames: &mut [Frame<K>],
-    keys: &mut [K],
-    values: &mut [u64],
-    seats: &mut [Seat<K>],
-    call: Call<K>,
-) -> Answer
-    ensures { Promised (call_rule K.Ordered.before sizes (memory_of slots.old records.old frames.old keys.old values.old seats.old) call) (outcome_of slots.new records.new frames.new keys.new values.new seats.new result) }
-{
-    match call {
-        Call::Begin(seat, request) => begin(
-            sizes, slots, records, frames, keys, values, seats, seat, request,
-        ),
-        Call::Step(seat) => step(sizes, slots, records, frames, keys, values, seats, seat),
-        Call::Report(seat) => report(sizes, slots, records, frames, keys, values, seats, seat),
+impl<K: Ordered> LentMemory<'_, K> {
+    /// Makes the call.
+    // A match, since a call is a value that is written down in lists of calls.
+    pub fn make_call(&mut self, sizes: Sizes, call: Call<K>) -> Result<Answer, Refusal>
+        ensures { Follows (call_rule K.Ordered.before sizes (held self.old) call) self.old self.new result }
+    {
+        match call {
+            Call::Begin(number, request) => self.begin(sizes, number, request),
+            Call::Step(number) => self.step(sizes, number),
+            Call::Report(number) => self.report(sizes, number),
+        }
     }
 }

@@ -1,9 +1,12 @@
 //! What a delta record carries when it is put on a head.
 
 ghost use Rattle.std.specs.Prelude.{◌≡◌};
-ghost use Rattle.bwtree.specs.Deltas.{attributes_on, cut as cut_of, delta_on, high_on, right_on, size_on};
+ghost use Rattle.bwtree.specs.Deltas.{cut as cut_of, delta_on};
+ghost use Rattle.bwtree.specs.Lent.{Reads};
 
-use nodes::node::{Attributes, Delta, Head, Kind};
+use crate::answer::Refusal;
+use crate::old_chain::OldChain;
+use nodes::node::{Attributes, Delta, Kind};
 
 /// How many of `size` entries a split leaves in the old leaf.
 pub(crate) fn cut(size: usize) -> usize
@@ -12,61 +15,40 @@ pub(crate) fn cut(size: usize) -> usize
     size / 2
 }
 
-/// The high key under a new delta.
-fn high_on<K: Copy>(kind: Kind, key: K, high: Option<K>) -> Option<K>
-    ensures { result ≡ high_on kind key high }
-{
-    match kind {
-        Kind::Insertion => high,
-        Kind::Deletion => high,
-        Kind::Split => Some(key),
-        Kind::Separator => high,
-    }
-}
-
-/// The right sibling under a new delta.
-fn right_on(kind: Kind, value: u64, right: Option<usize>) -> Option<usize>
-    ensures { result ≡ right_on kind value right }
-{
-    match kind {
-        Kind::Insertion => right,
-        Kind::Deletion => right,
-        Kind::Split => Some(value as usize),
-        Kind::Separator => right,
-    }
-}
-
-/// A delta put on a head with these attributes, absent where a number would pass 64 bits.
+/// A delta put on a chain, refused where a number would pass 64 bits. A split's own key is its high key, and its new
+/// leaf the right sibling.
 pub(crate) fn delta_on<K: Copy>(
     kind: Kind,
     key: K,
     value: u64,
-    next: Head,
-    below: Attributes<K>,
-) -> Option<Delta<K>>
-    ensures { result ≡ delta_on kind key value next below }
+    old: &OldChain<K>,
+) -> Result<Delta<K>, Refusal>
+    ensures { Reads (delta_on kind key value old.now.head old.now.attributes) result }
 {
-    if below.depth == usize::MAX || below.size == usize::MAX {
-        return None;
-    }
+    let below = &old.attributes;
+    let depth = below.depth.checked_add(1).ok_or(Refusal::Impossible)?;
+    let grown = below.size.checked_add(1).ok_or(Refusal::Impossible)?;
     let size = match kind {
-        Kind::Insertion => below.size + 1,
+        Kind::Insertion | Kind::Separator => grown,
         Kind::Deletion => below.size.saturating_sub(1),
         Kind::Split => cut(below.size),
-        Kind::Separator => below.size + 1,
     };
-    let attributes = Attributes {
-        low: below.low,
-        high: high_on(kind, key, below.high),
-        right: right_on(kind, value, below.right),
-        size,
-        depth: below.depth + 1,
+    // A slot's number in a value: usize and u64 have no From, and both have 64 bits.
+    let (high, right) = match kind {
+        Kind::Split => (Some(key), Some(value as usize)),
+        _ => (below.high, below.right),
     };
-    Some(Delta {
+    Ok(Delta {
         kind,
         key,
         value,
-        next,
-        attributes,
+        next: old.head,
+        attributes: Attributes {
+            low: below.low,
+            high,
+            right,
+            size,
+            depth,
+        },
     })
 }

@@ -1,289 +1,137 @@
 //! Leaf walk: what the chain of a leaf says of a key, and what the request then does.
 
-ghost use Rattle.std.specs.Prelude.{◌≡◌, Bool};
-ghost use Rattle.bwtree.specs.Memory.{memory_of, outcome_of};
-ghost use Rattle.nodes.specs.Build.{Kept, Promised};
-ghost use Rattle.bwtree.specs.Walks.{judged, leaf_walk, look_at, look_delta, look_frame, look_record, looked, put, verdict as verdict_of};
-ghost use Rattle.pool.specs.Free.{next_free};
+ghost use Rattle.std.specs.Prelude.{◌≡◌};
+ghost use Rattle.bwtree.specs.Lent.{Followed, Follows, Reads, free_record_from, held};
+ghost use Rattle.bwtree.specs.Walks.{leaf_walk, look_at, look_delta, looked, put, verdict as verdict_of};
 
 use crate::answer::{Answer, End, Ending, Refusal};
 use crate::delta::delta_on;
-use crate::ending::ended;
-use crate::request::key_of;
-use crate::seat::{Cursors, Phase, Request, Seat};
+use crate::memory::LentMemory;
+use crate::old_chain::OldChain;
+use crate::seat::{Cursors, Phase, Request};
+use crate::turn::Turn;
 use crate::walk::{Look, Verdict};
 use keys::order::{Ordered, same};
-use nodes::access::{peek, poke};
-use nodes::chain::attributes;
-use nodes::halving::find;
-use nodes::node::{Attributes, Delta, Frame, Head, Kind, Record, Slot};
-use pool::free::next_free;
+use nodes::items::PLACES;
+use nodes::node::{Delta, Head, Kind, Record};
 
 /// What a delta says of a key.
 fn look_delta<K: Ordered>(key: &K, delta: &Delta<K>) -> Look<Head>
     ensures { result ≡ look_delta K.Ordered.before key.now delta.now.key delta.now.value delta.now.next delta.now.kind }
 {
     match delta.kind {
-        Kind::Insertion => {
-            if same(key, &delta.key) {
-                Look::Decided(Some(delta.value))
-            } else {
-                Look::Onward(delta.next)
+        Kind::Insertion if same(key, &delta.key) => Look::Decided(Some(delta.value)),
+        Kind::Deletion if same(key, &delta.key) => Look::Decided(None),
+        _ => Look::Onward(delta.next),
+    }
+}
+
+impl<K: Copy> Request<K> {
+    /// What a decided walk comes to, on a snapshot of this size.
+    fn verdict(&self, size: usize, found: Option<u64>) -> Result<Verdict, Refusal>
+        ensures { Reads (verdict_of self.now size found) result }
+    {
+        match (self, found) {
+            (Request::Lookup(_), Some(value)) => Ok(Verdict::Ends(End::Found, value)),
+            (Request::Insert(_, _), Some(old)) => Ok(Verdict::Ends(End::Present, old)),
+            (Request::Insert(_, _), None) if size >= PLACES => Ok(Verdict::Ends(End::LeafFull, 0)),
+            (Request::Insert(_, value), None) => Ok(Verdict::Puts(Kind::Insertion, *value)),
+            (Request::Delete(_), Some(old)) => Ok(Verdict::Puts(Kind::Deletion, old)),
+            (Request::Lookup(_) | Request::Delete(_), None) => Ok(Verdict::Ends(End::Missing, 0)),
+            _ => Err(Refusal::Impossible),
+        }
+    }
+}
+
+impl<K: Copy> LentMemory<'_, K> {
+    /// A change: a record is taken and filled on the snapshot, unless none is free.
+    fn put(
+        &mut self,
+        turn: Turn<K>,
+        old: &OldChain<K>,
+        key: K,
+        kind: Kind,
+        value: u64,
+    ) -> Result<Answer, Refusal>
+        ensures { Follows (put (held self.old) turn.number turn.seat old.now.slot old.now.head old.now.attributes key kind value (free_record_from (held self.old) turn.seat.cursors)) self.old self.new result }
+    {
+        let cursors = turn.seat.cursors;
+        // Not `?`: an operation that ends has an answer, and `?` would leave with a refusal.
+        let Some(number) = self.free_record(cursors) else {
+            return Ok(self.ends(turn, Ending::on(End::TooFewRecords, 0, &old.attributes)));
+        };
+        let delta = delta_on(kind, key, value, old)?;
+        self.set_record(number, Record { free: false, delta });
+        let cursors = Cursors {
+            records: number,
+            ..cursors
+        };
+        let swap = Phase::Swap {
+            slot: old.slot,
+            snapshot: old.head,
+            fresh: Head::Record(number),
+        };
+        Ok(self.goes(turn.taking(cursors), swap))
+    }
+
+    /// The walk is decided, with the key's value if it has one.
+    fn decided(
+        &mut self,
+        turn: Turn<K>,
+        old: &OldChain<K>,
+        key: K,
+        found: Option<u64>,
+    ) -> Result<Answer, Refusal>
+        ensures { Follows (looked (held self.old) turn.number turn.seat old.now.slot old.now.head old.now.attributes key (Look.Decided found)) self.old self.new result }
+    {
+        match turn.seat.request.verdict(old.attributes.size, found)? {
+            Verdict::Ends(end, value) => Ok(self.ends(
+                turn,
+                Ending::on(end, value, &old.attributes),
+            )),
+            Verdict::Puts(kind, value) => self.put(turn, old, key, kind, value),
+        }
+    }
+}
+
+impl<K: Ordered> LentMemory<'_, K> {
+    /// What one record or frame of a leaf's chain says of a key.
+    fn look_at(&self, key: &K, at: Head) -> Result<Look<Head>, Refusal>
+        ensures { Followed (look_at K.Ordered.before (held self.now).records (held self.now).frames (held self.now).keys (held self.now).values key.now at) result }
+    {
+        match at {
+            Head::Record(number) => Ok(look_delta(key, &self.record(number)?.delta)),
+            Head::Frame(number) => {
+                let size = self.frame(number)?.attributes.size;
+                let found = self.items().find(number, size, key);
+                found.map(Look::Decided).ok_or(Refusal::Impossible)
             }
         }
-        Kind::Deletion => {
-            if same(key, &delta.key) {
-                Look::Decided(None)
-            } else {
-                Look::Onward(delta.next)
+    }
+
+    /// Leaf walk: looks at one record or frame of the leaf's chain.
+    // Slot and snapshot stand one by one here, in build and in the swaps, as in the phases that hold them.
+    pub fn leaf_walk(
+        &mut self,
+        turn: Turn<K>,
+        slot: usize,
+        snapshot: Head,
+        at: Head,
+    ) -> Result<Answer, Refusal>
+        ensures { Follows (leaf_walk K.Ordered.before (held self.old) turn.number turn.seat slot snapshot at) self.old self.new result }
+    {
+        let key = turn.seat.request.key()?;
+        let attributes = self.attributes(snapshot)?;
+        match self.look_at(&key, at)? {
+            Look::Onward(at) => Ok(self.goes(turn, Phase::LeafWalk { slot, snapshot, at })),
+            Look::Decided(found) => {
+                let old = OldChain {
+                    slot,
+                    head: snapshot,
+                    attributes,
+                };
+                self.decided(turn, &old, key, found)
             }
         }
-        Kind::Split => Look::Onward(delta.next),
-        Kind::Separator => Look::Onward(delta.next),
     }
-}
-
-/// What a record of a leaf's chain says of a key.
-fn look_record<K: Ordered>(records: &[Record<K>], key: &K, number: usize) -> Option<Look<Head>>
-    ensures { Kept (look_record K.Ordered.before records.now key.now number) result }
-{
-    if number < records.len() {
-        Some(look_delta(key, &records[number].delta))
-    } else {
-        None
-    }
-}
-
-/// What the frame of a leaf says of a key.
-fn look_frame<K: Ordered>(
-    frames: &[Frame<K>],
-    keys: &[K],
-    values: &[u64],
-    key: &K,
-    number: usize,
-) -> Option<Look<Head>>
-    ensures { Kept (look_frame K.Ordered.before frames.now keys.now values.now key.now number) result }
-{
-    let Some(frame) = peek(frames, number) else {
-        return None;
-    };
-    match find(keys, values, number, frame.attributes.size, key) {
-        None => None,
-        Some(value) => Some(Look::Decided(value)),
-    }
-}
-
-/// What one record or frame of a leaf's chain says of a key.
-fn look_at<K: Ordered>(
-    records: &[Record<K>],
-    frames: &[Frame<K>],
-    keys: &[K],
-    values: &[u64],
-    key: &K,
-    at: Head,
-) -> Option<Look<Head>>
-    ensures { Kept (look_at K.Ordered.before records.now frames.now keys.now values.now key.now at) result }
-{
-    match at {
-        Head::Record(number) => look_record(records, key, number),
-        Head::Frame(number) => look_frame(frames, keys, values, key, number),
-    }
-}
-
-/// What a decided walk comes to, on a snapshot of this size.
-fn verdict<K: Copy>(request: Request<K>, size: usize, found: Option<u64>) -> Option<Verdict>
-    ensures { result ≡ verdict_of request size found }
-{
-    match request {
-        Request::Lookup(_) => match found {
-            None => Some(Verdict::Ends(End::Missing, 0)),
-            Some(value) => Some(Verdict::Ends(End::Found, value)),
-        },
-        Request::Insert(_, value) => match found {
-            None => {
-                if size >= 64 {
-                    Some(Verdict::Ends(End::LeafFull, 0))
-                } else {
-                    Some(Verdict::Puts(Kind::Insertion, value))
-                }
-            }
-            Some(old) => Some(Verdict::Ends(End::Present, old)),
-        },
-        Request::Delete(_) => match found {
-            None => Some(Verdict::Ends(End::Missing, 0)),
-            Some(old) => Some(Verdict::Puts(Kind::Deletion, old)),
-        },
-        Request::Consolidate(_) => None,
-        Request::Split(_) => None,
-        Request::ConsolidateRoot => None,
-    }
-}
-
-/// A change: a record is taken and filled on the snapshot, unless none is free.
-fn put_record<K: Copy>(
-    slots: &mut [Slot],
-    records: &mut [Record<K>],
-    frames: &mut [Frame<K>],
-    keys: &mut [K],
-    values: &mut [u64],
-    seats: &mut [Seat<K>],
-    seat: usize,
-    it: Seat<K>,
-    slot: usize,
-    snapshot: Head,
-    leaf: Attributes<K>,
-    key: K,
-    kind: Kind,
-    value: u64,
-) -> Answer
-    ensures { Promised (put (memory_of slots.old records.old frames.old keys.old values.old seats.old) seat it slot snapshot leaf key kind value (next_free (λ (x : Record K). x.free) records.old it.cursors.records)) (outcome_of slots.new records.new frames.new keys.new values.new seats.new result) }
-{
-    let Some(number) = next_free(records, it.cursors.records) else {
-        return ended(
-            slots,
-            records,
-            frames,
-            keys,
-            values,
-            seats,
-            seat,
-            it,
-            Ending {
-                end: End::TooFewRecords,
-                value: 0,
-                depth: leaf.depth,
-                size: leaf.size,
-            },
-        );
-    };
-    let Some(delta) = delta_on(kind, key, value, snapshot, leaf) else {
-        return Answer::Refused(Refusal::Impossible);
-    };
-    poke(records, number, Record { free: false, delta });
-    let mut it = it;
-    it.cursors = Cursors {
-        records: number,
-        frames: it.cursors.frames,
-        slots: it.cursors.slots,
-    };
-    it.phase = Phase::Swap {
-        slot,
-        snapshot,
-        fresh: Head::Record(number),
-    };
-    poke(seats, seat, it);
-    Answer::Going
-}
-
-/// The walk is decided.
-fn decided<K: Copy>(
-    slots: &mut [Slot],
-    records: &mut [Record<K>],
-    frames: &mut [Frame<K>],
-    keys: &mut [K],
-    values: &mut [u64],
-    seats: &mut [Seat<K>],
-    seat: usize,
-    it: Seat<K>,
-    slot: usize,
-    snapshot: Head,
-    leaf: Attributes<K>,
-    key: K,
-    verdict: Verdict,
-) -> Answer
-    ensures { Promised (judged (memory_of slots.old records.old frames.old keys.old values.old seats.old) seat it slot snapshot leaf key verdict) (outcome_of slots.new records.new frames.new keys.new values.new seats.new result) }
-{
-    match verdict {
-        Verdict::Ends(end, value) => {
-            ended(
-                slots,
-                records,
-                frames,
-                keys,
-                values,
-                seats,
-                seat,
-                it,
-                Ending {
-                    end,
-                    value,
-                    depth: leaf.depth,
-                    size: leaf.size,
-                },
-            )
-        }
-        Verdict::Puts(kind, value) => {
-            put_record(
-                slots, records, frames, keys, values, seats, seat, it, slot, snapshot, leaf, key,
-                kind, value,
-            )
-        }
-    }
-}
-
-/// What was seen at one node leads on, or decides.
-fn seen<K: Copy>(
-    slots: &mut [Slot],
-    records: &mut [Record<K>],
-    frames: &mut [Frame<K>],
-    keys: &mut [K],
-    values: &mut [u64],
-    seats: &mut [Seat<K>],
-    seat: usize,
-    it: Seat<K>,
-    slot: usize,
-    snapshot: Head,
-    leaf: Attributes<K>,
-    key: K,
-    look: Look<Head>,
-) -> Answer
-    ensures { Promised (looked (memory_of slots.old records.old frames.old keys.old values.old seats.old) seat it slot snapshot leaf key look) (outcome_of slots.new records.new frames.new keys.new values.new seats.new result) }
-{
-    match look {
-        Look::Onward(at) => {
-            let mut it = it;
-            it.phase = Phase::LeafWalk { slot, snapshot, at };
-            poke(seats, seat, it);
-            Answer::Going
-        }
-        Look::Decided(found) => {
-            let Some(verdict) = verdict(it.request, leaf.size, found) else {
-                return Answer::Refused(Refusal::Impossible);
-            };
-            decided(
-                slots, records, frames, keys, values, seats, seat, it, slot, snapshot, leaf, key,
-                verdict,
-            )
-        }
-    }
-}
-
-/// Leaf walk: looks at one record or frame of the leaf's chain.
-pub fn leaf_walk<K: Ordered>(
-    slots: &mut [Slot],
-    records: &mut [Record<K>],
-    frames: &mut [Frame<K>],
-    keys: &mut [K],
-    values: &mut [u64],
-    seats: &mut [Seat<K>],
-    seat: usize,
-    it: Seat<K>,
-    slot: usize,
-    snapshot: Head,
-    at: Head,
-) -> Answer
-    ensures { Promised (leaf_walk K.Ordered.before (memory_of slots.old records.old frames.old keys.old values.old seats.old) seat it slot snapshot at) (outcome_of slots.new records.new frames.new keys.new values.new seats.new result) }
-{
-    let Some(key) = key_of(it.request) else {
-        return Answer::Refused(Refusal::Impossible);
-    };
-    let Some(leaf) = attributes(records, frames, snapshot) else {
-        return Answer::Refused(Refusal::Impossible);
-    };
-    let Some(look) = look_at(records, frames, keys, values, &key, at) else {
-        return Answer::Refused(Refusal::Impossible);
-    };
-    seen(
-        slots, records, frames, keys, values, seats, seat, it, slot, snapshot, leaf, key, look,
-    )
 }

@@ -2,12 +2,15 @@
 
 #![tactic(auto)]
 
+pub mod access;
 pub mod answer;
 pub mod build;
 pub mod call;
 pub mod delta;
 pub mod ending;
 pub mod leaf_walk;
+pub mod memory;
+pub mod old_chain;
 pub mod reads;
 pub mod report;
 pub mod request;
@@ -16,4 +19,6 @@ pub mod seat;
 pub mod sizes;
 pub mod step;
 pub mod swap;
+pub mod taking;
+pub mod turn;
 pub mod walk;

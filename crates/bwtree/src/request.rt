@@ -1,76 +1,52 @@
 //! What a request asks for along its way.
 
 ghost use Rattle.std.specs.Prelude.{◌≡◌};
+ghost use Rattle.bwtree.specs.Lent.{Reads};
 ghost use Rattle.bwtree.specs.Walks.{after_leaf_read, after_root_read, key_of};
 
+use crate::answer::Refusal;
 use crate::seat::{Phase, Request};
 use nodes::node::Head;
 
-/// The key that a request is about.
-pub(crate) fn key_of<K: Copy>(request: Request<K>) -> Option<K>
-    ensures { result ≡ key_of request }
-{
-    match request {
-        Request::Lookup(key) => Some(key),
-        Request::Insert(key, _) => Some(key),
-        Request::Delete(key) => Some(key),
-        Request::Consolidate(key) => Some(key),
-        Request::Split(key) => Some(key),
-        Request::ConsolidateRoot => None,
+impl<K: Copy> Request<K> {
+    /// The key that a request is about.
+    pub(crate) fn key(&self) -> Result<K, Refusal>
+        ensures { Reads (key_of self.now) result }
+    {
+        match *self {
+            Request::Lookup(key)
+            | Request::Insert(key, _)
+            | Request::Delete(key)
+            | Request::Consolidate(key)
+            | Request::Split(key) => Ok(key),
+            Request::ConsolidateRoot => Err(Refusal::Impossible),
+        }
     }
-}
 
-/// The phase after the root read that took this snapshot.
-pub(crate) fn after_root_read<K: Copy>(request: Request<K>, snapshot: Head) -> Phase
-    ensures { result ≡ after_root_read request snapshot }
-{
-    match request {
-        Request::Lookup(_) => Phase::RootWalk {
-            at: snapshot,
-            best: None,
-        },
-        Request::Insert(_, _) => Phase::RootWalk {
-            at: snapshot,
-            best: None,
-        },
-        Request::Delete(_) => Phase::RootWalk {
-            at: snapshot,
-            best: None,
-        },
-        Request::Consolidate(_) => Phase::RootWalk {
-            at: snapshot,
-            best: None,
-        },
-        Request::Split(_) => Phase::RootWalk {
-            at: snapshot,
-            best: None,
-        },
-        Request::ConsolidateRoot => Phase::Build { slot: 0, snapshot },
+    /// The phase after the root read that took this snapshot.
+    pub(crate) fn after_root_read(&self, snapshot: Head) -> Phase
+        ensures { result ≡ after_root_read self.now snapshot }
+    {
+        match self {
+            Request::ConsolidateRoot => Phase::Build { slot: 0, snapshot },
+            _ => Phase::RootWalk {
+                at: snapshot,
+                best: None,
+            },
+        }
     }
-}
 
-/// The phase after the leaf read that took this snapshot.
-pub(crate) fn after_leaf_read<K: Copy>(request: Request<K>, slot: usize, snapshot: Head) -> Phase
-    ensures { result ≡ after_leaf_read request slot snapshot }
-{
-    match request {
-        Request::Lookup(_) => Phase::LeafWalk {
-            slot,
-            snapshot,
-            at: snapshot,
-        },
-        Request::Insert(_, _) => Phase::LeafWalk {
-            slot,
-            snapshot,
-            at: snapshot,
-        },
-        Request::Delete(_) => Phase::LeafWalk {
-            slot,
-            snapshot,
-            at: snapshot,
-        },
-        Request::Consolidate(_) => Phase::Build { slot, snapshot },
-        Request::Split(_) => Phase::Build { slot, snapshot },
-        Request::ConsolidateRoot => Phase::Build { slot, snapshot },
+    /// The phase after the leaf read that took this snapshot.
+    pub(crate) fn after_leaf_read(&self, slot: usize, snapshot: Head) -> Phase
+        ensures { result ≡ after_leaf_read self.now slot snapshot }
+    {
+        match self {
+            Request::Lookup(_) | Request::Insert(_, _) | Request::Delete(_) => Phase::LeafWalk {
+                slot,
+                snapshot,
+                at: snapshot,
+            },
+            _ => Phase::Build { slot, snapshot },
+        }
     }
 }

@@ -1,7 +1,10 @@
+ghost use Rattle.std.specs.Prelude.{◌≡◌};
+ghost use Rattle.bwtree.specs.Swaps.{is_open};
+
 use nodes::node::Head;
 
 /// What an operation is asked to do.
-#[derive(Clone, Copy)]
+#[derive(Clone, Copy, Debug, PartialEq, Eq)]
 pub enum Request<K> {
     Lookup(K),
     Insert(K, u64),
@@ -15,7 +18,8 @@ pub enum Request<K> {
 
 /// What the next step of a seat does, with the numbers that it needs. A snapshot is the head that the operation
 /// took from a slot, and compares the slot with in its swap.
-#[derive(Clone, Copy)]
+// Plain numbers: a phase lies in lent memory, and a step copies it out and writes its seat whole.
+#[derive(Clone, Copy, Debug, PartialEq, Eq)]
 pub enum Phase {
     Idle,
     RootRead,
@@ -65,8 +69,18 @@ pub enum Phase {
     },
 }
 
+impl Phase {
+    /// Whether a seat with this phase has an open operation.
+    pub(crate) fn is_open(self) -> bool
+        ensures { result ≡ is_open self }
+    {
+        self != Phase::Idle
+    }
+}
+
 /// Where a seat's next look for a free record, frame and slot begins.
-#[derive(Clone, Copy)]
+// Not `Sizes`: these are places, those are counts.
+#[derive(Clone, Copy, Debug, PartialEq, Eq)]
 pub struct Cursors {
     pub records: usize,
     pub frames: usize,
@@ -74,7 +88,7 @@ pub struct Cursors {
 }
 
 /// The place of one worker: its operation, and the numbers of its swaps that found their slot equal or not.
-#[derive(Clone, Copy)]
+#[derive(Clone, Copy, Debug, PartialEq, Eq)]
 pub struct Seat<K> {
     pub request: Request<K>,
     pub phase: Phase,

@@ -1,443 +1,214 @@
 //! The compare-and-swaps: swap, the swap of a split, post read and post swap.
 
-ghost use Rattle.std.specs.Prelude.{◌≡◌, Bool, Some};
-ghost use Rattle.bwtree.specs.Memory.{memory_of, outcome_of};
-ghost use Rattle.nodes.specs.declared.node.Head.TheVariants.{Frame as FrameHead, Record as RecordHead};
-ghost use Rattle.nodes.specs.Build.{Promised};
-ghost use Rattle.nodes.specs.Chains.{bind};
+ghost use Rattle.std.specs.Prelude.{◌≡◌};
 ghost use Rattle.std.specs.List.{slice_get};
-ghost use Rattle.bwtree.specs.Deltas.{delta_on};
-ghost use Rattle.bwtree.specs.Swaps.{end_of, end_value, given_back, is_open as is_open_phase, open_seat, open_seats, post_read, post_swap, same_head, split_given_back, split_swap, swap as swap_rule, swapped, unchanged as is_unchanged};
-ghost use Rattle.bwtree.specs.Memory.{goes, lost as lost_seat, won as won_seat};
-ghost use Rattle.bwtree.specs.declared.seat.Phase.TheVariants.{RootRead};
-ghost use Rattle.pool.specs.Free.{free_chain};
+ghost use Rattle.nodes.specs.declared.node.Head.TheVariants.{Frame as FrameHead, Record as RecordHead};
+ghost use Rattle.bwtree.specs.Lent.{Becomes, Follows, Reads, ending_of, held};
+ghost use Rattle.bwtree.specs.Swaps.{given_back, open_seat, open_seats, post_read, post_swap, retiring, split_given_back, split_swap, swap as swap_rule, swapped};
 
 use crate::answer::{Answer, End, Ending, Refusal};
 use crate::delta::delta_on;
-use crate::ending::{ended, leave_waits};
-use crate::reads::head_in;
-use crate::seat::{Phase, Seat};
-use nodes::access::{peek, poke};
-use nodes::chain::{attributes, frame_under};
-use nodes::node::{Frame, FrameState, Head, Kind, Record, Slot};
+use crate::memory::LentMemory;
+use crate::seat::Phase;
+use crate::taking::Taken;
+use crate::turn::Turn;
+use nodes::node::{FrameState, Head, Kind, Record};
 use pool::free::free_chain;
 use pool::waits::{retire, set_state};
+use std::array;
 
-/// Whether two heads are one.
-fn same_head(a: Head, b: Head) -> bool
-    ensures { result ≡ same_head a b }
-{
-    match a {
-        Head::Record(m) => match b {
-            Head::Record(n) => m == n,
-            Head::Frame(_) => false,
-        },
-        Head::Frame(m) => match b {
-            Head::Record(_) => false,
-            Head::Frame(n) => m == n,
-        },
-    }
-}
-
-/// Whether a slot still holds the snapshot.
-fn unchanged(head: Option<Head>, snapshot: Head) -> bool
-    ensures { result ≡ is_unchanged head snapshot }
-{
-    match head {
-        None => false,
-        Some(head) => same_head(head, snapshot),
-    }
-}
-
-/// The seat with one more installed swap.
-fn won<K: Copy>(it: Seat<K>) -> Seat<K>
-    ensures { result ≡ won_seat it }
-{
-    let mut it = it;
-    it.installed = it.installed.saturating_add(1);
-    it
-}
-
-/// The seat with one more failed swap.
-fn lost<K: Copy>(it: Seat<K>) -> Seat<K>
-    ensures { result ≡ lost_seat it }
-{
-    let mut it = it;
-    it.failed = it.failed.saturating_add(1);
-    it
-}
-
-/// How the swap of a record ends its operation.
-fn end_of(kind: Kind) -> Option<End>
-    ensures { result ≡ end_of kind }
+/// How the swap of a record ends its operation, with the value that this ending carries.
+fn ending_of(kind: Kind, value: u64) -> Result<(End, u64), Refusal>
+    ensures { Reads (ending_of kind value) result }
 {
     match kind {
-        Kind::Insertion => Some(End::Stored),
-        Kind::Deletion => Some(End::Removed),
-        Kind::Split => None,
-        Kind::Separator => None,
+        Kind::Insertion => Ok((End::Stored, 0)),
+        Kind::Deletion => Ok((End::Removed, value)),
+        Kind::Split | Kind::Separator => Err(Refusal::Impossible),
     }
 }
 
-/// The value that this ending carries.
-fn end_value(kind: Kind, value: u64) -> u64
-    ensures { result ≡ end_value kind value }
-{
-    match kind {
-        Kind::Insertion => 0,
-        Kind::Deletion => value,
-        Kind::Split => 0,
-        Kind::Separator => 0,
+impl<K: Copy> LentMemory<'_, K> {
+    /// Whether the seat at a place has an open operation.
+    fn has_open(&self, number: usize) -> bool
+        ensures { result ≡ open_seat (slice_get (held self.now).seats number) }
+    {
+        self.seats
+            .get(number)
+            .is_some_and(|seat| seat.phase.is_open())
     }
-}
 
-/// Whether a seat with this phase has an open operation.
-pub(crate) fn is_open(phase: Phase) -> bool
-    ensures { result ≡ is_open_phase phase }
-{
-    match phase {
-        Phase::Idle => false,
-        Phase::RootRead => true,
-        Phase::RootWalk { .. } => true,
-        Phase::LeafRead { .. } => true,
-        Phase::LeafWalk { .. } => true,
-        Phase::Build { .. } => true,
-        Phase::Swap { .. } => true,
-        Phase::SplitSwap { .. } => true,
-        Phase::PostRead { .. } => true,
-        Phase::PostSwap { .. } => true,
+    /// Which of the four seats have an open operation.
+    // An array of marks, one for each of the four seats: there is no heap for a set.
+    fn open_seats(&self) -> [bool; 4]
+        ensures { result ≡ open_seats (held self.now).seats }
+    {
+        array::from_fn(|number| self.has_open(number))
     }
-}
 
-/// Whether the seat at a place has an open operation.
-fn open_seat<K: Copy>(seats: &[Seat<K>], seat: usize) -> bool
-    ensures { result ≡ open_seat (slice_get seats.now seat) }
-{
-    match peek(seats, seat) {
-        None => false,
-        Some(it) => is_open(it.phase),
+    /// A replaced chain, of `count` records from `head` down to the frame `base`, waits for the seats that are open.
+    fn retire(&mut self, base: usize, head: Head, count: usize)
+        ensures { Becomes self.old self.new (retiring (held self.old) base head count) }
+    {
+        let seats = self.open_seats();
+        retire(self.frames, base, head, count, seats);
     }
-}
 
-/// Which of the four seats have an open operation.
-fn open_seats<K: Copy>(seats: &[Seat<K>]) -> [bool; 4]
-    ensures { result ≡ open_seats seats.now }
-{
-    [
-        open_seat(seats, 0),
-        open_seat(seats, 1),
-        open_seat(seats, 2),
-        open_seat(seats, 3),
-    ]
-}
-
-/// The swap of a record found its slot equal.
-fn record_swapped<K: Copy>(
-    slots: &mut [Slot],
-    records: &mut [Record<K>],
-    frames: &mut [Frame<K>],
-    keys: &mut [K],
-    values: &mut [u64],
-    seats: &mut [Seat<K>],
-    seat: usize,
-    it: Seat<K>,
-    slot: usize,
-    snapshot: Head,
-    number: usize,
-) -> Answer
-    ensures { Promised (swapped (memory_of slots.old records.old frames.old keys.old values.old seats.old) seat it slot snapshot (RecordHead number)) (outcome_of slots.new records.new frames.new keys.new values.new seats.new result) }
-{
-    let Some(fresh) = peek(records, number) else {
-        return Answer::Refused(Refusal::Impossible);
-    };
-    let Some(end) = end_of(fresh.delta.kind) else {
-        return Answer::Refused(Refusal::Impossible);
-    };
-    poke(
-        slots,
-        slot,
-        Slot {
-            head: Some(Head::Record(number)),
-        },
-    );
-    let value = end_value(fresh.delta.kind, fresh.delta.value);
-    let ending = Ending {
-        end,
-        value,
-        depth: fresh.delta.attributes.depth,
-        size: fresh.delta.attributes.size,
-    };
-    ended(
-        slots,
-        records,
-        frames,
-        keys,
-        values,
-        seats,
-        seat,
-        won(it),
-        ending,
-    )
-}
-
-/// The swap of a frame found its slot equal: the replaced chain is retired.
-fn frame_swapped<K: Copy>(
-    slots: &mut [Slot],
-    records: &mut [Record<K>],
-    frames: &mut [Frame<K>],
-    keys: &mut [K],
-    values: &mut [u64],
-    seats: &mut [Seat<K>],
-    seat: usize,
-    it: Seat<K>,
-    slot: usize,
-    snapshot: Head,
-    number: usize,
-) -> Answer
-    ensures { Promised (swapped (memory_of slots.old records.old frames.old keys.old values.old seats.old) seat it slot snapshot (FrameHead number)) (outcome_of slots.new records.new frames.new keys.new values.new seats.new result) }
-{
-    let Some(fresh) = peek(frames, number) else {
-        return Answer::Refused(Refusal::Impossible);
-    };
-    let Some(old) = attributes(records, frames, snapshot) else {
-        return Answer::Refused(Refusal::Impossible);
-    };
-    let Some(base) = frame_under(records, snapshot, old.depth) else {
-        return Answer::Refused(Refusal::Impossible);
-    };
-    poke(
-        slots,
-        slot,
-        Slot {
-            head: Some(Head::Frame(number)),
-        },
-    );
-    let mut it = won(it);
-    it.phase = Phase::Idle;
-    poke(seats, seat, it);
-    retire(frames, base, snapshot, old.depth, open_seats(seats));
-    let ending = Ending {
-        end: End::Consolidated,
-        value: 0,
-        depth: fresh.attributes.depth,
-        size: fresh.attributes.size,
-    };
-    leave_waits(slots, records, frames, keys, values, seats, seat, ending)
-}
-
-/// A record that was taken is free again.
-fn give_back_record<K: Copy>(records: &mut [Record<K>], number: usize)
-    ensures { records.new ≡ free_chain 1 records.old (RecordHead number) }
-{
-    free_chain(records, Head::Record(number), 1);
-}
-
-/// A failed swap: what was taken is free again, and the operation starts anew.
-fn start_anew<K: Copy>(
-    slots: &mut [Slot],
-    records: &mut [Record<K>],
-    frames: &mut [Frame<K>],
-    keys: &mut [K],
-    values: &mut [u64],
-    seats: &mut [Seat<K>],
-    seat: usize,
-    it: Seat<K>,
-) -> Answer
-    ensures { (outcome_of slots.new records.new frames.new keys.new values.new seats.new result) ≡ goes (memory_of slots.old records.old frames.old keys.old values.old seats.old) seat (lost_seat it) RootRead }
-{
-    let mut it = lost(it);
-    it.phase = Phase::RootRead;
-    poke(seats, seat, it);
-    Answer::Going
-}
-
-/// Swap: the new record or frame becomes the head, unless the slot has changed since the snapshot.
-pub fn swap<K: Copy>(
-    slots: &mut [Slot],
-    records: &mut [Record<K>],
-    frames: &mut [Frame<K>],
-    keys: &mut [K],
-    values: &mut [u64],
-    seats: &mut [Seat<K>],
-    seat: usize,
-    it: Seat<K>,
-    slot: usize,
-    snapshot: Head,
-    fresh: Head,
-) -> Answer
-    ensures { Promised (swap_rule (memory_of slots.old records.old frames.old keys.old values.old seats.old) seat it slot snapshot fresh) (outcome_of slots.new records.new frames.new keys.new values.new seats.new result) }
-{
-    let Some(found) = peek(slots, slot) else {
-        return Answer::Refused(Refusal::Impossible);
-    };
-    if unchanged(found.head, snapshot) {
-        return match fresh {
-            Head::Record(number) => record_swapped(
-                slots, records, frames, keys, values, seats, seat, it, slot, snapshot, number,
-            ),
-            Head::Frame(number) => frame_swapped(
-                slots, records, frames, keys, values, seats, seat, it, slot, snapshot, number,
-            ),
-        };
-    }
-    match fresh {
-        Head::Record(number) => {
-            give_back_record(records, number);
-            start_anew(slots, records, frames, keys, values, seats, seat, it)
-        }
-        Head::Frame(number) => {
-            set_state(frames, number, FrameState::Free);
-            start_anew(slots, records, frames, keys, values, seats, seat, it)
+    /// A record or frame that was taken is free again.
+    fn give_back(&mut self, head: Head)
+        ensures { Becomes self.old self.new (given_back (held self.old) head) }
+    {
+        match head {
+            Head::Record(_) => free_chain(self.records, head, 1),
+            Head::Frame(number) => set_state(self.frames, number, FrameState::Free),
         }
     }
-}
 
-/// The swap of a split: the split record becomes the leaf's head, and the separator is posted next.
-pub fn split_swap<K: Copy>(
-    slots: &mut [Slot],
-    records: &mut [Record<K>],
-    frames: &mut [Frame<K>],
-    keys: &mut [K],
-    values: &mut [u64],
-    seats: &mut [Seat<K>],
-    seat: usize,
-    it: Seat<K>,
-    slot: usize,
-    snapshot: Head,
-    split: usize,
-    separator: usize,
-    frame: usize,
-    target: usize,
-) -> Answer
-    ensures { Promised (split_swap (memory_of slots.old records.old frames.old keys.old values.old seats.old) seat it slot snapshot split separator frame target) (outcome_of slots.new records.new frames.new keys.new values.new seats.new result) }
-{
-    let Some(found) = peek(slots, slot) else {
-        return Answer::Refused(Refusal::Impossible);
-    };
-    if unchanged(found.head, snapshot) {
-        let Some(fresh) = peek(records, split) else {
-            return Answer::Refused(Refusal::Impossible);
+    /// All that a split took is free again.
+    fn give_back_split(&mut self, taken: Taken)
+        ensures { Becomes self.old self.new (split_given_back (held self.old) taken.split taken.separator taken.frame taken.target) }
+    {
+        self.give_back(Head::Record(taken.split));
+        self.give_back(Head::Record(taken.separator));
+        self.give_back(Head::Frame(taken.frame));
+        self.set_slot(taken.target, None);
+    }
+
+    /// The swap of a record found its slot equal.
+    // Beside the swap of a frame: a record ends its operation by its kind, a frame retires what it replaces.
+    fn record_swapped(
+        &mut self,
+        turn: Turn<K>,
+        slot: usize,
+        snapshot: Head,
+        number: usize,
+    ) -> Result<Answer, Refusal>
+        ensures { Follows (swapped (held self.old) turn.number turn.seat slot snapshot (RecordHead number)) self.old self.new result }
+    {
+        let delta = self.record(number)?.delta;
+        let (end, value) = ending_of(delta.kind, delta.value)?;
+        let ending = Ending::on(end, value, &delta.attributes);
+        self.set_slot(slot, Some(Head::Record(number)));
+        Ok(self.ends(turn.won(), ending))
+    }
+
+    /// The swap of a frame found its slot equal: the replaced chain is retired.
+    fn frame_swapped(
+        &mut self,
+        turn: Turn<K>,
+        slot: usize,
+        snapshot: Head,
+        number: usize,
+    ) -> Result<Answer, Refusal>
+        ensures { Follows (swapped (held self.old) turn.number turn.seat slot snapshot (FrameHead number)) self.old self.new result }
+    {
+        let attributes = self.frame(number)?.attributes;
+        let depth = self.attributes(snapshot)?.depth;
+        let base = self.frame_under(snapshot, depth)?;
+        self.set_slot(slot, Some(Head::Frame(number)));
+        self.set_seat(turn.won().at(Phase::Idle));
+        self.retire(base, snapshot, depth);
+        let ending = Ending::on(End::Consolidated, 0, &attributes);
+        Ok(self.leave_waits(turn.number, ending))
+    }
+
+    /// Swap: the new record or frame becomes the head, unless the slot has changed since the snapshot. Then what was
+    /// taken is free again, and the operation starts anew.
+    pub fn swap(
+        &mut self,
+        turn: Turn<K>,
+        slot: usize,
+        snapshot: Head,
+        fresh: Head,
+    ) -> Result<Answer, Refusal>
+        ensures { Follows (swap_rule (held self.old) turn.number turn.seat slot snapshot fresh) self.old self.new result }
+    {
+        if self.slot(slot)?.head != Some(snapshot) {
+            self.give_back(fresh);
+            return Ok(self.goes(turn.lost(), Phase::RootRead));
+        }
+        match fresh {
+            Head::Record(number) => self.record_swapped(turn, slot, snapshot, number),
+            Head::Frame(number) => self.frame_swapped(turn, slot, snapshot, number),
+        }
+    }
+
+    /// The swap of a split: the split record becomes the leaf's head, and the separator is posted next.
+    pub fn split_swap(
+        &mut self,
+        turn: Turn<K>,
+        slot: usize,
+        snapshot: Head,
+        taken: Taken,
+    ) -> Result<Answer, Refusal>
+        ensures { Follows (split_swap (held self.old) turn.number turn.seat slot snapshot taken.split taken.separator taken.frame taken.target) self.old self.new result }
+    {
+        if self.slot(slot)?.head != Some(snapshot) {
+            self.give_back_split(taken);
+            return Ok(self.goes(turn.lost(), Phase::RootRead));
+        }
+        let installed = self.record(taken.split)?.delta.attributes;
+        self.set_slot(slot, Some(Head::Record(taken.split)));
+        let post = Phase::PostRead {
+            separator: taken.separator,
+            depth: installed.depth,
+            size: installed.size,
         };
-        poke(
-            slots,
-            slot,
-            Slot {
-                head: Some(Head::Record(split)),
-            },
-        );
-        let mut it = won(it);
-        it.phase = Phase::PostRead {
+        Ok(self.goes(turn.won(), post))
+    }
+
+    /// Post read: the separator is filled on the root's head.
+    // The numbers of a phase stand one by one, here and in post swap: what a split took is a struct, since it is passed
+    // on whole and given back whole, but each of these goes its own way.
+    pub fn post_read(
+        &mut self,
+        turn: Turn<K>,
+        separator: usize,
+        depth: usize,
+        size: usize,
+    ) -> Result<Answer, Refusal>
+        ensures { Follows (post_read (held self.old) turn.number turn.seat separator depth size) self.old self.new result }
+    {
+        let snapshot = self.head_in(0)?;
+        let root = self.old_chain(0, snapshot)?;
+        let posted = self.record(separator)?.delta;
+        let delta = delta_on(Kind::Separator, posted.key, posted.value, &root)?;
+        self.set_record(separator, Record { free: false, delta });
+        let swap = Phase::PostSwap {
+            snapshot,
             separator,
-            depth: fresh.delta.attributes.depth,
-            size: fresh.delta.attributes.size,
+            depth,
+            size,
         };
-        poke(seats, seat, it);
-        return Answer::Going;
+        Ok(self.goes(turn, swap))
     }
-    give_back_record(records, split);
-    give_back_record(records, separator);
-    set_state(frames, frame, FrameState::Free);
-    poke(slots, target, Slot { head: None });
-    start_anew(slots, records, frames, keys, values, seats, seat, it)
-}
 
-/// Post read: the separator is filled on the root's head.
-pub fn post_read<K: Copy>(
-    slots: &mut [Slot],
-    records: &mut [Record<K>],
-    frames: &mut [Frame<K>],
-    keys: &mut [K],
-    values: &mut [u64],
-    seats: &mut [Seat<K>],
-    seat: usize,
-    it: Seat<K>,
-    separator: usize,
-    depth: usize,
-    size: usize,
-) -> Answer
-    ensures { Promised (post_read (memory_of slots.old records.old frames.old keys.old values.old seats.old) seat it separator depth size) (outcome_of slots.new records.new frames.new keys.new values.new seats.new result) }
-{
-    let Some(snapshot) = head_in(slots, 0) else {
-        return Answer::Refused(Refusal::Impossible);
-    };
-    let Some(root) = attributes(records, frames, snapshot) else {
-        return Answer::Refused(Refusal::Impossible);
-    };
-    let Some(held) = peek(records, separator) else {
-        return Answer::Refused(Refusal::Impossible);
-    };
-    let Some(delta) = delta_on(
-        Kind::Separator,
-        held.delta.key,
-        held.delta.value,
-        snapshot,
-        root,
-    ) else {
-        return Answer::Refused(Refusal::Impossible);
-    };
-    poke(records, separator, Record { free: false, delta });
-    let mut it = it;
-    it.phase = Phase::PostSwap {
-        snapshot,
-        separator,
-        depth,
-        size,
-    };
-    poke(seats, seat, it);
-    Answer::Going
-}
-
-/// Post swap: the separator becomes the root's head, unless the root has changed since the post read.
-pub fn post_swap<K: Copy>(
-    slots: &mut [Slot],
-    records: &mut [Record<K>],
-    frames: &mut [Frame<K>],
-    keys: &mut [K],
-    values: &mut [u64],
-    seats: &mut [Seat<K>],
-    seat: usize,
-    it: Seat<K>,
-    snapshot: Head,
-    separator: usize,
-    depth: usize,
-    size: usize,
-) -> Answer
-    ensures { Promised (post_swap (memory_of slots.old records.old frames.old keys.old values.old seats.old) seat it snapshot separator depth size) (outcome_of slots.new records.new frames.new keys.new values.new seats.new result) }
-{
-    let Some(found) = peek(slots, 0) else {
-        return Answer::Refused(Refusal::Impossible);
-    };
-    if unchanged(found.head, snapshot) {
-        poke(
-            slots,
-            0,
-            Slot {
-                head: Some(Head::Record(separator)),
-            },
-        );
-        return ended(
-            slots,
-            records,
-            frames,
-            keys,
-            values,
-            seats,
-            seat,
-            won(it),
-            Ending {
-                end: End::Split,
-                value: 0,
+    /// Post swap: the separator becomes the root's head, unless the root has changed since the post read.
+    pub fn post_swap(
+        &mut self,
+        turn: Turn<K>,
+        snapshot: Head,
+        separator: usize,
+        depth: usize,
+        size: usize,
+    ) -> Result<Answer, Refusal>
+        ensures { Follows (post_swap (held self.old) turn.number turn.seat snapshot separator depth size) self.old self.new result }
+    {
+        if self.slot(0)?.head != Some(snapshot) {
+            let post = Phase::PostRead {
+                separator,
                 depth,
                 size,
-            },
-        );
+            };
+            return Ok(self.goes(turn.lost(), post));
+        }
+        self.set_slot(0, Some(Head::Record(separator)));
+        let ending = Ending {
+            end: End::Split,
+            value: 0,
+            depth,
+            size,
+        };
+        Ok(self.ends(turn.won(), ending))
     }
-    let mut it = lost(it);
-    it.phase = Phase::PostRead {
-        separator,
-        depth,
-        size,
-    };
-    poke(seats, seat, it);
-    Answer::Going
 }

@@ -1,5 +1,5 @@
 -- checking accepts exactly the images, and the entries read are those that the image was made of
-use Rattle.std.proofs.Common.{◌≡◌, ℕ, zero, suc, ◌+◌, ◌*◌, ◌≤◌, Bool, true, false, eqb, ltb, List, [], ◌∷◌, ◌++◌, length, take, drop, is_ok, Some, None, Ok, Err, Option, Result, sym, refl, ap, ◌∙◌, suc-mul, add-mul, zero-mul, mul-add, arith, length-append, take-add}
+use Rattle.std.proofs.Common.{◌≡◌, ℕ, zero, suc, ◌+◌, ◌*◌, ◌≤◌, Bool, true, false, cond, eqb, ltb, List, [], ◌∷◌, ◌++◌, length, take, drop, is_ok, Some, None, Ok, Err, Option, Result, sym, refl, ap, ◌∙◌, suc-mul, add-mul, zero-mul, mul-add, arith, length-append, take-add}
 use Rattle.std.proofs.lemmas.List.{append_cancel_left, take_all, take_at, drop_at, drop-drop}
 use Rattle.std.proofs.lemmas.Bool.{cases_Bool, eq-eqb, eqb-true, le-ltb, ltb-false}
 use Rattle.image.specs.declared.refusal.Refusal.{Refusal}
@@ -200,11 +200,12 @@ module _ {K : Type 0} {width : ℕ} {form : K → List ℕ} {key_of : List ℕ �
 
       -- the verdict where the sizes pass, by the first place out of order as a reader of that width and count finds it
       pub verdict_ordered : (w n : ℕ) (unordered : Option ℕ) → w ≡ width → Ok n ≡ sizes_verdict width bytes
-          → unordered ≡ first_unordered before (keys_of (entries_in key_of w n bytes)) → order_verdict unordered ≡ verdict before width key_of bytes
+          → unordered ≡ first_unordered before (keys_of (cond (eqb w width) (entries_in key_of w n bytes) [])) → order_verdict unordered ≡ verdict before width key_of bytes
       verdict_ordered w n unordered p q r =
           let count = (sizes_accepted n (sym q)).3 in
           let same : unordered ≡ first_unordered before (keys_of (entries_of key_of width bytes)) =
-          r ∙ ap (λ (x : ℕ). first_unordered before (keys_of (entries_in key_of x n bytes))) p
+          r ∙ ap (λ (b : Bool). first_unordered before (keys_of (cond b (entries_in key_of w n bytes) []))) (eq-eqb w width p)
+          ∙ ap (λ (x : ℕ). first_unordered before (keys_of (entries_in key_of x n bytes))) p
           ∙ ap (λ (x : ℕ). first_unordered before (keys_of (entries_in key_of width x bytes))) count in
           ap order_verdict same
           ∙ ap (λ (s : Result ℕ Refusal). verdict_after s (first_unordered before (keys_of (entries_of key_of width bytes)))) q

@@ -1,12 +1,11 @@
 -- where keys and values lie in bytes, and what is read there
-use Rattle.std.proofs.Common.{◌≡◌, ℕ, zero, suc, ◌+◌, ◌-◌, ◌*◌, ◌<◌, ◌≤◌, true, false, cond, eqb, ltb, List, length, drop, Some, None, refl, ap, ◌∙◌, add-zero, mul-le-mul_right, suc-mul, zero-add, mul-add, arith, length-drop}
-use Rattle.std.proofs.lemmas.List.{length-take-le}
+use Rattle.std.proofs.Common.{◌≡◌, ℕ, zero, suc, ◌+◌, ◌-◌, ◌*◌, ◌<◌, ◌≤◌, Bool, true, false, cond, eqb, ltb, List, [], ◌∷◌, length, drop, Some, None, refl, sym, ap, ◌∙◌, add-zero, add-one, mul-le-mul_right, suc-mul, zero-add, mul-add, arith, length-drop}
+use Rattle.std.proofs.lemmas.List.{length-take-le, drop_all}
 use Rattle.std.proofs.lemmas.Bool.{cases_Bool, cases_lt, eq-eqb, lt-ltb, le-ltb, ltb-true}
-use Rattle.std.specs.List.{slice_get}
+use Rattle.std.specs.List.{cons_option, filter_map, range_with_len, slice_get}
 use Rattle.image.specs.Image.{part, key_part, value_part, entry_at, entries_from, entries_in}
-use Rattle.image.specs.Read.{entry_parts, decoded_pair}
+use Rattle.image.specs.Read.{entry_parts, decoded_pair, entries_read}
 use Rattle.image.specs.declared.reader.Reader.{Reader}
-use Rattle.image.specs.declared.entry.Entry.{Entry}
 
 -- the key and the value at a place lie within bytes that hold as many as the count
 pub within : (place count width size : ℕ) → place < count → count * (width + 8) ≤ size - 4
@@ -46,32 +45,58 @@ pub length_part : (from size : ℕ) (bytes : List ℕ) → from + size ≤ lengt
 length_part from size bytes h =
     let enough : size ≤ length (drop from bytes) = simp length-drop (omega arith) in length-take-le size (drop from bytes) enough
 
-module _ {K : Type 0} (key_of : List ℕ → K) (width : ℕ) (r : Reader) (place : ℕ) where
-  -- what the bytes of an entry decode to
-  pub decoded_some : (key value : List ℕ) → Some (key, value) ≡ entry_parts r.width r.count r.image.now place
-      → decoded_pair key_of width key value ≡ cond (eqb r.width width) (slice_get (entries_in key_of r.width r.count r.image.now) place) None
-  decoded_some key value e =
-      let h : place < r.count = grind (arith, cases_Bool (ltb place r.count), ltb-true place r.count) in
-      let t : ltb place r.count ≡ true = lt-ltb place r.count h in
-      let k : key ≡ key_part r.width place r.image.now = grind (arith, t) in
-      let v : value ≡ value_part r.width r.count place r.image.now = grind (arith, t) in
-      let bounds = within_reader r place h in
-      let lk : length key ≡ r.width = ap length k ∙ length_part (4 + place * r.width) r.width r.image.now (omega arith) in
-      let lv : length value ≡ 8 =
-      ap length v ∙ length_part (4 + r.count * r.width + place * 8) 8 r.image.now (omega arith) in
-      rw (lk, lv, nth_entries_in key_of r.width r.count r.image.now place, t, k, v)
+-- an entry under a condition
+nth_under : {X : Type 0} (b : Bool) (xs : List X) (i : ℕ) → cond b (slice_get xs i) None ≡ slice_get (cond b xs []) i
+nth_under true xs i = refl
+nth_under false xs i = refl
 
-  pub decoded_none : None ≡ entry_parts r.width r.count r.image.now place
-      → None ≡ cond (eqb r.width width) (slice_get (entries_in key_of r.width r.count r.image.now) place) None
-  decoded_none e =
-      let t : ltb place r.count ≡ false = grind (arith, cases_Bool (ltb place r.count)) in
-      rw (nth_entries_in key_of r.width r.count r.image.now place, t) (grind (arith, cases_Bool (eqb r.width width)))
+module _ {K : Type 0} (key_of : List ℕ → K) (width : ℕ) (r : Reader) where
+  -- where the widths agree
+  pub held_all : r.width ≡ width → entries_read width key_of r ≡ entries_in key_of r.width r.count r.image.now
+  held_all h = let t : eqb r.width width ≡ true = eq-eqb r.width width h in rw t
 
-pub cond_same : {X : Type 0} (a b : ℕ) (x y z : X) → a ≡ b → x ≡ cond (eqb a b) y z → x ≡ y
-cond_same a b x y z h e = let t : eqb a b ≡ true = eq-eqb a b h in rw t at e
+  pub length-held_le : length (entries_read width key_of r) ≤ r.count
+  length-held_le = held (eqb r.width width)
+    where
+      held : (b : Bool) → length (cond b (entries_in key_of r.width r.count r.image.now) []) ≤ r.count
+      held true = omega (arith, length-entries_from key_of r.width r.count r.image.now 0 r.count)
+      held false = omega arith
 
-pub nth_below : {K : Type 0} (key_of : List ℕ → K) (width count : ℕ) (bytes : List ℕ) (place : ℕ) (e : Entry K)
-    → Some e ≡ slice_get (entries_in key_of width count bytes) place → place < count
-nth_below key_of width count bytes place e h =
-    let i = nth_entries_in key_of width count bytes place in
-    grind (arith, cases_Bool (ltb place count), ltb-true place count)
+  module _ (place : ℕ) where
+    -- what the bytes of an entry decode to
+    pub decoded_some : (key value : List ℕ) → Some (key, value) ≡ entry_parts r.width r.count r.image.now place
+        → decoded_pair key_of width key value ≡ slice_get (entries_read width key_of r) place
+    decoded_some key value e =
+        let h : place < r.count = grind (arith, cases_Bool (ltb place r.count), ltb-true place r.count) in
+        let t : ltb place r.count ≡ true = lt-ltb place r.count h in
+        let k : key ≡ key_part r.width place r.image.now = grind (arith, t) in
+        let v : value ≡ value_part r.width r.count place r.image.now = grind (arith, t) in
+        let bounds = within_reader r place h in
+        let lk : length key ≡ r.width = ap length k ∙ length_part (4 + place * r.width) r.width r.image.now (omega arith) in
+        let lv : length value ≡ 8 =
+        ap length v ∙ length_part (4 + r.count * r.width + place * 8) 8 r.image.now (omega arith) in
+        let found : decoded_pair key_of width key value ≡ cond (eqb r.width width) (slice_get (entries_in key_of r.width r.count r.image.now) place) None =
+        rw (lk, lv, nth_entries_in key_of r.width r.count r.image.now place, t, k, v) in
+        found ∙ nth_under (eqb r.width width) (entries_in key_of r.width r.count r.image.now) place
+
+    pub decoded_none : None ≡ entry_parts r.width r.count r.image.now place → None ≡ slice_get (entries_read width key_of r) place
+    decoded_none e =
+        let t : ltb place r.count ≡ false = grind (arith, cases_Bool (ltb place r.count)) in
+        let none : None ≡ cond (eqb r.width width) (slice_get (entries_in key_of r.width r.count r.image.now) place) None =
+        rw (nth_entries_in key_of r.width r.count r.image.now place, t) (grind (arith, cases_Bool (eqb r.width width))) in
+        none ∙ nth_under (eqb r.width width) (entries_in key_of r.width r.count r.image.now) place
+
+module _ {X : Type 0} where
+  found_here : (xs : List X) (i : ℕ) {found : List X} → found ≡ drop (i + 1) xs → cons_option (slice_get xs i) found ≡ drop i xs
+  found_here [] zero e = e
+  found_here [] (suc i) e = e ∙ rw add-one
+  found_here (x ∷ xs) zero e = ap (λ s. x ∷ s) e
+  found_here (x ∷ xs) (suc i) e = found_here xs i (e ∙ rw (add-one, add-one))
+
+  -- looking up each place from one on finds the items from there on
+  found_from : (xs : List X) (i n : ℕ) → length xs ≤ i + n → filter_map (slice_get xs) (range_with_len i n) ≡ drop i xs
+  found_from xs i zero h = sym (drop_all i xs (omega arith))
+  found_from xs i (suc n) h = found_here xs i (found_from xs (i + 1) n (omega arith))
+
+  pub all_found : (xs : List X) (n : ℕ) → length xs ≤ n → filter_map (slice_get xs) (range_with_len 0 n) ≡ xs
+  all_found xs n h = found_from xs 0 n (omega arith)

@@ -1,21 +1,12 @@
 -- bytes written over a buffer, part by part, until it holds an image
-use Rattle.std.proofs.Common.{◌≡◌, ℕ, suc, ◌+◌, ◌-◌, ◌*◌, ◌<◌, ◌≤◌, true, cond, ltb, List, [], ◌∷◌, ◌++◌, length, get_or, take, drop, Some, None, Ok, sym, refl, ap, ◌∙◌, suc-mul, add-mul, zero-mul, mul-add, arith, length-append, length-drop, take-append-drop}
-use borrow.Rule.Slice.PartMut.{put_mid}
-use Rattle.std.proofs.lemmas.List.{append_assoc, append-nil, take_at, drop_at, drop-drop, drop-append-le, drop_more, length-take-le, nil_from_length}
-use Rattle.std.proofs.lemmas.Bool.{cases_Bool, le-leb, lt-ltb, ltb-false}
+use Rattle.std.proofs.Common.{◌≡◌, ℕ, suc, ◌+◌, ◌*◌, ◌≤◌, ltb, List, [], ◌∷◌, ◌++◌, length, take, drop, Ok, sym, refl, ap, ◌∙◌, suc-mul, add-mul, zero-mul, mul-add, arith, length-append, length-drop, take-append-drop}
+use Rattle.std.proofs.lemmas.List.{append_assoc, append-nil, take_at, drop_at, drop-drop, drop-append-le, length-take-le, nil_from_length}
+use Rattle.std.proofs.lemmas.Bool.{cases_Bool, ltb-false}
 use Rattle.keys.specs.Bytes.{big_endian}
 use Rattle.keys.specs.BytesLemmas.{length-big_endian}
 use Rattle.image.specs.Image.{most_entries, image_length, image_of, key_forms, value_forms}
-use Rattle.image.specs.Written.{has_place, room_verdict, splice, with_sizes, with_entry, with_entries}
+use Rattle.image.specs.Written.{room_verdict, splice, with_sizes, with_entry, with_entries}
 use Rattle.image.specs.declared.entry.Entry.{Entry}
-
--- a write to a part of a buffer
-pub put_mid_splice : (at n : ℕ) (old written new : List ℕ) → written ≡ new → n ≡ length new → put_mid at (at + n - at) old written ≡ splice at new old
-put_mid_splice at n old written new e l =
-    let size : at + n - at ≡ length new = omega arith in
-    ap (λ (k : ℕ). put_mid at k old written) size
-    ∙ ap (λ (w : List ℕ). put_mid at (length new) old w) e
-    ∙ ap (λ (t : List ℕ). take at old ++ (new ++ t)) (drop-drop (length new) at old)
 
 pub splice_at : (front rest new : List ℕ) (at : ℕ) → length front ≡ at → splice at new (front ++ rest) ≡ front ++ (new ++ drop (length new) rest)
 splice_at front rest new at l =
@@ -30,14 +21,6 @@ sizes_spliced first second buffer l m =
     ∙ splice_at first (drop (length first) buffer) second 2 l
     ∙ ap (λ (t : List ℕ). first ++ (second ++ t)) (drop-drop (length second) (length first) buffer ∙ ap (λ (n : ℕ). drop n buffer) four)
 
--- the length that is answered
-pub length_known : (width count needed : ℕ) → Some needed ≡ cond (ltb most_entries count) None (Some (image_length width count))
-    → (count ≤ most_entries) × (needed ≡ image_length width count)
-length_known width count needed e =
-    let few : count ≤ most_entries = grind (arith, cases_Bool (ltb most_entries count), ltb-false most_entries count) in
-    let known : needed ≡ image_length width count = grind (arith, cases_Bool (ltb most_entries count)) in
-    (few, known)
-
 -- where the room suffices
 pub room_known : (width count needed : ℕ) (buffer : List ℕ) → Ok needed ≡ room_verdict width count buffer → image_length width count ≤ length buffer
 room_known width count needed buffer e =
@@ -47,21 +30,6 @@ room_known width count needed buffer e =
       cases_Bool (ltb (length buffer) (image_length width count)),
       ltb-false (length buffer) (image_length width count),
     )
-
-pub has_place_lem : (width count place : ℕ) (buffer : List ℕ) → count ≤ most_entries → place < count → image_length width count ≤ length buffer
-    → has_place width count place buffer ≡ true
-has_place_lem width count place buffer few h room =
-    rw (le-leb count most_entries few, lt-ltb place count h, le-leb (image_length width count) (length buffer) room)
-
--- one entry more of those that are written one after the other
-pub entries_next : {K : Type 0} (width : ℕ) (form : K → List ℕ) (count : ℕ) (es : List (Entry K)) (place : ℕ) (e : Entry K) (buffer after : List ℕ)
-    → place < length es → e ≡ get_or es place e → after ≡ with_entry width form count place e buffer
-    → with_entries width form count (place + 1) (drop (place + 1) es) after ≡ with_entries width form count place (drop place es) buffer
-entries_next width form count es place e buffer after h is written =
-    let here : drop place es ≡ e ∷ drop (place + 1) es =
-    drop_more es place e h ∙ ap (λ (x : Entry _). x ∷ drop (place + 1) es) (sym is) in
-    ap (with_entries width form count (place + 1) (drop (place + 1) es)) written
-    ∙ ap (λ (l : List (Entry _)). with_entries width form count place l buffer) (sym here)
 
 module _ {K : Type 0} (width : ℕ) (form : K → List ℕ) (wide : (k : K) → length (form k) ≡ width) (count : ℕ) where
   -- one entry: its key after the keys written so far, its value after the values written so far

@@ -1,8 +1,9 @@
-use Rattle.std.specs.Prelude.{ℕ, cond, List, length, Some, None, Option, ◌==◌, nat_lt}
+use Rattle.std.specs.Prelude.{ℕ, cond, List, [], length, Some, None, Option, ◌==◌, nat_lt}
 use Rattle.std.specs.Borrow.{Bor}
 use Rattle.keys.specs.Bytes.{number_of}
 use Rattle.image.specs.declared.entry.Entry.{Entry}
-use Rattle.image.specs.Image.{key_part, value_part}
+use Rattle.image.specs.Image.{key_part, value_part, entries_in}
+use Rattle.image.specs.declared.reader.Reader.{Reader}
 
 -- the bytes behind two borrowed parts
 abbrev pub bytes_of_pair : Option (Bor (List ℕ) × Bor (List ℕ)) → Option (List ℕ × List ℕ)
@@ -17,3 +18,7 @@ entry_parts width count bytes place = cond (nat_lt place count) (Some (key_part 
 abbrev pub decoded_pair : {K : Type 0} → (List ℕ → K) → ℕ → List ℕ → List ℕ → Option (Entry K)
 decoded_pair key_of width key value =
     cond (length key == width) (cond (length value == 8) (Some (record { key = key_of key; value = number_of value })) None) None
+
+-- the entries that a reader reads as those of a kind, none where its keys are not as wide as the kind's
+abbrev pub entries_read : {K : Type 0} → ℕ → (List ℕ → K) → Reader → List (Entry K)
+entries_read width key_of r = cond (r.width == width) (entries_in key_of r.width r.count r.image.now) []

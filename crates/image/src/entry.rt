@@ -1,5 +1,6 @@
 /// A key of an index with the value that it maps to.
-#[derive(Clone, Copy)]
+// Not `Item` of the crate nodes: images need no nodes, and an item's value may be a leaf's slot.
+#[derive(Clone, Copy, Debug, PartialEq, Eq)]
 pub struct Entry<K> {
     pub key: K,
     pub value: u64,

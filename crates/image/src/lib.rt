@@ -3,6 +3,7 @@
 #![tactic(auto)]
 
 pub mod entry;
+mod order;
 pub mod reader;
 pub mod refusal;
 #[cfg(test)]

@@ -5,7 +5,7 @@ pub mod reads;
 pub mod walk;
 
 /// An image that is read: its bytes, the width of its keys and how many entries it has.
-#[derive(Clone, Copy)]
+#[derive(Clone, Copy, Debug, PartialEq, Eq)]
 pub struct Reader<'a> {
     image: &'a [u8],
     width: usize,

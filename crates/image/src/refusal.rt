@@ -2,7 +2,7 @@ ghost use Rattle.std.specs.Prelude.{◌≡◌};
 ghost use Rattle.image.specs.Refusals.{number_of_refusal};
 
 /// Why bytes are no image, or why an image is not written.
-#[derive(Clone, Copy)]
+#[derive(Clone, Copy, Debug, PartialEq, Eq)]
 pub enum Refusal {
     /// The buffer is shorter than the image, which has that many bytes.
     Buffer { needed: usize },
@@ -16,12 +16,12 @@ pub enum Refusal {
     Order { place: usize },
 }
 
-impl Refusal {
-    /// The number by which a refusal is known outside of the program.
-    pub fn number(&self) -> u8
-        ensures { result ≡ number_of_refusal self.now }
-    {
-        match self {
+/// The number by which a refusal is known outside of the program.
+impl From<Refusal> for u8 {
+    ghost from_gives = { λ refusal number. number ≡ number_of_refusal refusal };
+
+    fn from(refusal: Refusal) -> u8 {
+        match refusal {
             Refusal::Buffer { .. } => 6,
             Refusal::Length => 7,
             Refusal::Width => 8,

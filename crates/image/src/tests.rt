@@ -14,7 +14,7 @@ use keys::order::Ordered;
 use std::test::Fail;
 
 /// A kind of key whose order is not that of its bytes: the larger number stands before the smaller.
-#[derive(Clone, Copy)]
+#[derive(Clone, Copy, Debug, PartialEq, Eq)]
 struct Rank {
     number: u8,
 }
@@ -34,7 +34,9 @@ impl Ordered for Rank {
 }
 
 impl ByteForm for Rank {
-    ghost width = { 1 };
+    const WIDTH: usize = 1;
+
+    ghost WIDTH = { 1 };
 
     ghost form = { λ k. k.number ∷ [] };
 
@@ -48,12 +50,8 @@ impl ByteForm for Rank {
 
     ghost every = { λ bytes l b. one_byte bytes l };
 
-    fn width_in_bytes() -> usize {
-        1
-    }
-
     fn write(&self, into: &mut [u8]) -> bool {
-        if into.len() != 1 {
+        if into.len() != Rank::WIDTH {
             return false;
         }
         into[0] = self.number;
@@ -61,19 +59,16 @@ impl ByteForm for Rank {
     }
 
     fn read(from: &[u8]) -> Option<Rank> {
-        if from.len() != 1 {
+        let &[number] = from else {
             return None;
-        }
-        Some(Rank { number: from[0] })
+        };
+        Some(Rank { number })
     }
 }
 
-/// The number of a refusal, 0 where there is none.
-fn refused<T: Drop>(answer: Result<T, Refusal>) -> u8 {
-    match answer {
-        Ok(_) => 0,
-        Err(refusal) => refusal.number(),
-    }
+/// The number of a refusal, absent where there is none.
+fn refused<T: Drop>(answer: Result<T, Refusal>) -> Option<u8> {
+    answer.err().map(u8::from)
 }
 
 #[test]
@@ -96,17 +91,13 @@ fn one_expiry_has_24_bytes(rt: HostRuntime) {
 }
 
 /// The second entry of an image of ranks, and how many keys a walk over the image comes to.
-fn second_and_keys(bytes: &[u8]) -> Option<(Entry<Rank>, u8)> {
+fn second_and_keys(bytes: &[u8]) -> Option<(Entry<Rank>, usize)> {
     let mut reader = Reader::empty();
-    if check::<Rank>(&mut reader, bytes).is_err() {
-        return None;
-    }
-    let mut keys = 0u8;
-    for part in reader.walk() {
-        if let Part::Key { .. } = part {
-            keys = keys.wrapping_add(1);
-        }
-    }
+    check::<Rank>(&mut reader, bytes).ok()?;
+    let keys = reader
+        .walk()
+        .filter(|part| matches!(part, Part::Key { .. }))
+        .count();
     let second = reader.decoded::<Rank>(1)?;
     Some((second, keys))
 }
@@ -132,24 +123,24 @@ fn ranks_come_back_in_their_order(rt: HostRuntime) -> Result<(), Fail> {
     Ok(())
 }
 
-/// The number of the refusal of bytes as an image of ranks, 0 where they are one.
-fn refused_ranks(bytes: &[u8]) -> u8 {
+/// The number of the refusal of bytes as an image of ranks, absent where they are one.
+fn refused_ranks(bytes: &[u8]) -> Option<u8> {
     let mut reader = Reader::empty();
     refused(check::<Rank>(&mut reader, bytes))
 }
 
 #[test]
 fn bytes_that_are_no_image_are_refused(rt: HostRuntime) {
-    assert_eq!(rt; refused_ranks(&[0, 1, 0]), 7);
-    assert_eq!(rt; refused_ranks(&[0, 2, 0, 0]), 8);
-    assert_eq!(rt; refused_ranks(&[0, 1, 0, 1]), 7);
+    assert_eq!(rt; refused_ranks(&[0, 1, 0]), Some(7));
+    assert_eq!(rt; refused_ranks(&[0, 2, 0, 0]), Some(8));
+    assert_eq!(rt; refused_ranks(&[0, 1, 0, 1]), Some(7));
     assert_eq!(rt;
         refused_ranks(&[
             0, 1, 0, 2, 3, 9, 0, 0, 0, 0, 0, 0, 0, 1, 0, 0, 0, 0, 0, 0, 0, 2,
-        ],),
-        10
+        ]),
+        Some(10)
     );
-    assert_eq!(rt; refused_ranks(&[0, 1, 0, 0]), 0);
+    assert_eq!(rt; refused_ranks(&[0, 1, 0, 0]), None);
 }
 
 #[test]
@@ -159,8 +150,8 @@ fn entries_that_make_no_image_are_refused(rt: HostRuntime) {
         value: 1,
     };
     let mut buffer = [0; 12];
-    assert_eq!(rt; refused(write_sizes::<Rank>(&mut buffer, 4097)), 9);
-    assert_eq!(rt; refused(write(&[rank], &mut buffer)), 6);
-    assert_eq!(rt; refused(write(&[rank, rank], &mut buffer)), 10);
+    assert_eq!(rt; refused(write_sizes::<Rank>(&mut buffer, 4097)), Some(9));
+    assert_eq!(rt; refused(write(&[rank], &mut buffer)), Some(6));
+    assert_eq!(rt; refused(write(&[rank, rank], &mut buffer)), Some(10));
     assert_eq!(rt; buffer, [0; 12]);
 }

@@ -101,7 +101,7 @@ row i (suc n) = entry i i ∷ row (suc i) n
 
 -- the image of entries of expiry keys
 abbrev pub image_of_entries : List (Entry Expiry) → List ℕ
-image_of_entries es = image_of (bytes.ghosts).width (bytes.ghosts).form es
+image_of_entries es = image_of (bytes.ghosts).WIDTH (bytes.ghosts).form es
 
 -- images of the first three, four and eight of the keys 10, 20, 30 and so on, with the values 1, 2, 3 and so on
 abbrev pub three : List ℕ
@@ -575,4 +575,4 @@ cases =
 
 -- every case comes out as it is written
 abbrev pub CasesHold : Type 0
-CasesHold = AllHold (order.ghosts).before (bytes.ghosts).width (bytes.ghosts).form (bytes.ghosts).key_of cases
+CasesHold = AllHold (order.ghosts).before (bytes.ghosts).WIDTH (bytes.ghosts).form (bytes.ghosts).key_of cases

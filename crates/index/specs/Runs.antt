@@ -29,7 +29,7 @@ pub data Call (K : Type 0) : Type 0 where
 -- what a call says: whether an index was made or loaded, the answer of a rule, an image, or attributes
 pub data Said (K : Type 0) : Type 0 where
   Loaded : Result (Unit {0}) LoadRefusal → Said K
-  Answered : Answer → Said K
+  Answered : Result Answer Refusal → Said K
   Bytes : List ℕ → Said K
   Inspected : Attributes K → Said K
 
@@ -82,32 +82,32 @@ module _ {K : Type 0} where
 
   -- a call of a seat is refused
   abbrev pub refuses : Call K → Refusal → Line K
-  refuses c r = says c (Answered (answers.Refused r))
+  refuses c r = says c (Answered (Err r))
 
   -- an operation begins on a seat
   abbrev pub begins : ℕ → Request K → Line K
-  begins s r = says (Begin s r) (Answered answers.Begun)
+  begins s r = says (Begin s r) (Answered (Ok answers.Begun))
 
   -- so many steps of a seat, which all go on
   abbrev pub goes : ℕ → ℕ → Line K
-  goes s n = record { calls = replicate n (Step s); said = replicate n (Answered answers.Going) }
+  goes s n = record { calls = replicate n (Step s); said = replicate n (Answered (Ok answers.Going)) }
 
   -- so many steps of a seat, of which the last ends the operation: end, value, depth, size
   abbrev pub ends : ℕ → ℕ → End → ℕ → ℕ → ℕ → Line K
   ends s n e v d z =
       record {
         calls = replicate n (Step s);
-        said = replicate (n - 1) (Answered answers.Going) ++ (Answered (answers.Ended (record { end = e; value = v; depth = d; size = z })) ∷ []);
+        said = replicate (n - 1) (Answered (Ok answers.Going)) ++ (Answered (Ok (answers.Ended (record { end = e; value = v; depth = d; size = z }))) ∷ []);
       }
 
   -- an operation begins on a seat and ends with so many steps
   abbrev pub does : ℕ → Request K → ℕ → End → ℕ → ℕ → ℕ → Line K
-  does s r n e v d z = record { calls = Begin s r ∷ (ends s n e v d z).calls; said = Answered answers.Begun ∷ (ends s n e v d z).said }
+  does s r n e v d z = record { calls = Begin s r ∷ (ends s n e v d z).calls; said = Answered (Ok answers.Begun) ∷ (ends s n e v d z).said }
 
   -- a report of a seat: installed and failed; records free, chained, held and waiting
   abbrev pub reports : ℕ → ℕ → ℕ → ℕ → ℕ → ℕ → ℕ → Line K
   reports s i f free chained held waiting =
-      says (Report s) (Answered (answers.Reported (record { installed = i; failed = f; free = free; chained = chained; held = held; waiting = waiting })))
+      says (Report s) (Answered (Ok (answers.Reported (record { installed = i; failed = f; free = free; chained = chained; held = held; waiting = waiting }))))
 
   -- the image of the index
   abbrev pub images : List ℕ → Line K

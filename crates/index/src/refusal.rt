@@ -1,7 +1,7 @@
 use image::refusal::Refusal;
 
 /// Why an index is not made or loaded. The call then leaves everything as it was.
-#[derive(Clone, Copy)]
+#[derive(Clone, Copy, Debug, PartialEq, Eq)]
 pub enum LoadRefusal {
     /// A size or the length of an array is wrong.
     WrongSizes,

@@ -1,14 +1,6 @@
 -- the lines that are printed, as bytes
-use Rattle.std.specs.Prelude.{ℕ, ◌+◌, ◌-◌, ◌/◌, ◌%◌, cond, List, [], ◌∷◌, ◌++◌, length, replicate, codes, decimal, nat_lt}
-
--- the lower-case hex digit of a number below 16
-abbrev pub hex_digit : ℕ → ℕ
-hex_digit d = cond (nat_lt d 10) (48 + d) (87 + d)
-
--- bytes in hex, two digits each
-abbrev pub hex_of : List ℕ → List ℕ
-hex_of [] = []
-hex_of (b ∷ bs) = hex_digit (b / 16) ∷ (hex_digit (b % 16) ∷ hex_of bs)
+use Rattle.std.specs.Prelude.{ℕ, ◌-◌, List, ◌++◌, length, replicate, codes, decimal}
+pub use Rattle.keys.specs.Hex.{hex_digit, hex_of}
 
 -- a text after as many spaces as it lacks to the width
 abbrev pub right_aligned : ℕ → List ℕ → List ℕ

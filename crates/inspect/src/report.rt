@@ -1,24 +1,17 @@
 //! The report on the bytes of a file.
 
-ghost use Rattle.std.specs.Prelude.{◌≡◌, [], is_err, IfOk, if◌then◌else◌, string_bytes, nat_eq};
-ghost use Rattle.image.specs.Image.{entries_in};
+ghost use Rattle.std.specs.Prelude.{◌≡◌, IfOk, is_err, string_bytes};
+ghost use Rattle.image.specs.Read.{entries_read};
 ghost use Rattle.image.specs.Verdict.{verdict};
-ghost use Rattle.inspect.specs.Report.{image_text, report_text};
+ghost use Rattle.inspect.specs.Report.{image_text, printed, report_text};
 
-use crate::lines::header_line;
-use crate::refused::refusal_line;
+use crate::lines::Header;
+use crate::refused::RefusalLine;
 use crate::shown::Shown;
 use crate::table::{entries, table};
 use image::reader::Reader;
 use image::reader::check::check;
 use std::alloc::{AllocError, Global};
-
-/// What is printed for a file, and whether the file was refused.
-#[derive(Drop)]
-pub struct Report {
-    pub text: String,
-    pub refused: bool,
-}
 
 /// The header of an image of so many bytes, and a line for each of its entries.
 fn image_text<K: Shown>(
@@ -27,42 +20,43 @@ fn image_text<K: Shown>(
     bytes: usize,
     reader: &Reader,
 ) -> Result<String, AllocError>
-    ensures { IfOk result (λ text. string_bytes text ≡ image_text K.Shown.shown_as name.now bytes K.ByteForm.width (if nat_eq reader.now.width K.ByteForm.width then entries_in K.ByteForm.key_of reader.now.width reader.now.count reader.now.image.now else [])) }
+    ensures { IfOk result (λ text. string_bytes text ≡ image_text K.Shown.shown_as name.now bytes K.ByteForm.WIDTH (entries_read K.ByteForm.WIDTH K.ByteForm.key_of reader.now)) }
 {
     let entries = entries::<K>(heap, reader)?;
     let entries = entries.as_slice();
-    let mut text = header_line(heap, name, bytes, K::width_in_bytes(), entries.len())?;
-    let table = table(heap, entries)?;
-    text.push_str(table.as_str())?;
+    let header = Header {
+        name,
+        bytes,
+        width: K::WIDTH,
+        entries: entries.len(),
+    };
+    let mut text = header.to_string(heap)?;
+    text.push_str(table(heap, entries)?.as_str())?;
     Ok(text)
 }
 
-/// A reader of nothing yet, which may come to read those bytes.
-fn idle_reader<'a>(_bytes: &'a [u8]) -> Reader<'a> {
-    Reader::empty()
-}
-
-/// Checks the bytes of a file as an image with keys of the kind, and reports on them.
-pub fn report_on<K: Shown>(heap: Global, name: &str, bytes: &[u8]) -> Result<Report, AllocError>
+/// Checks the bytes of a file as an image with keys of the kind. The inner answer is the text of an image, or the line
+/// of a refused file.
+pub fn report_on<K: Shown>(
+    heap: Global,
+    name: &str,
+    bytes: &[u8],
+) -> Result<Result<String, String>, AllocError>
     ensures { IfOk result (λ report.
-        (string_bytes report.text ≡ report_text K.Shown.shown_as name.now K.ByteForm.width K.ByteForm.key_of bytes.now (verdict K.Ordered.before K.ByteForm.width K.ByteForm.key_of bytes.now))
-        × (report.refused ≡ is_err (verdict K.Ordered.before K.ByteForm.width K.ByteForm.key_of bytes.now))) }
+        (printed report ≡ report_text K.Shown.shown_as name.now K.ByteForm.WIDTH K.ByteForm.key_of bytes.now (verdict K.Ordered.before K.ByteForm.WIDTH K.ByteForm.key_of bytes.now))
+        × (is_err report ≡ is_err (verdict K.Ordered.before K.ByteForm.WIDTH K.ByteForm.key_of bytes.now))) }
 {
-    let mut reader = idle_reader(bytes);
+    let mut reader = Reader::empty();
     match check::<K>(&mut reader, bytes) {
-        Ok(()) => {
-            let text = image_text::<K>(heap, name, bytes.len(), &reader)?;
-            Ok(Report {
-                text,
-                refused: false,
-            })
-        }
+        Ok(()) => Ok(Ok(image_text::<K>(heap, name, bytes.len(), &reader)?)),
         Err(refusal) => {
-            let text = refusal_line(heap, name, bytes.len(), K::width_in_bytes(), &refusal)?;
-            Ok(Report {
-                text,
-                refused: true,
-            })
+            let line = RefusalLine {
+                name,
+                bytes: bytes.len(),
+                width: K::WIDTH,
+                refusal,
+            };
+            Ok(Err(line.to_string(heap)?))
         }
     }
 }

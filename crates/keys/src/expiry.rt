@@ -1,15 +1,16 @@
-ghost use Rattle.std.specs.Prelude.{◌++◌, take, drop};
+ghost use Rattle.std.specs.Prelude.{Some, ◌++◌, take, drop, codes, decimal};
 ghost use Rattle.std.proofs.Common.{length-append, rules};
 ghost use Rattle.keys.specs.Bytes.{big_endian, number_of};
 ghost use Rattle.keys.specs.Order.{pair_before};
 ghost use Rattle.keys.specs.BytesLemmas.{length-big_endian, parts_apart, parts_every};
 
 use crate::byte_form::ByteForm;
-use crate::number::{eight_bytes, four_bytes, from_eight, from_four};
+use crate::number::{Number, read_parts, write_parts};
 use crate::order::Ordered;
+use std::fmt;
 
 /// The second in which a token expires, and a serial that tells tokens of one second apart.
-#[derive(Clone, Copy)]
+#[derive(Clone, Copy, Debug, PartialEq, Eq, PartialOrd, Ord, Hash)]
 pub struct Expiry {
     pub second: u32,
     pub serial: u64,
@@ -26,13 +27,15 @@ impl Ordered for Expiry {
     ghost connected = { Prim.search rules };
 
     fn stands_before(&self, other: &Expiry) -> bool {
-        self.second < other.second || (self.second == other.second && self.serial < other.serial)
+        self < other
     }
 }
 
 /// An expiry key's form is its second in 4 bytes, then its serial in 8.
 impl ByteForm for Expiry {
-    ghost width = { 12 };
+    const WIDTH: usize = 12;
+
+    ghost WIDTH = { 12 };
 
     ghost form = { λ k. big_endian 4 k.second ++ big_endian 8 k.serial };
 
@@ -46,25 +49,22 @@ impl ByteForm for Expiry {
 
     ghost every = { λ bytes l b. parts_every 4 8 bytes l b };
 
-    fn width_in_bytes() -> usize {
-        12
-    }
-
     fn write(&self, into: &mut [u8]) -> bool {
-        if into.len() != 12 {
-            return false;
-        }
-        into[0..4].copy_from_slice(&four_bytes(self.second));
-        into[4..12].copy_from_slice(&eight_bytes(self.serial));
-        true
+        write_parts(into, &self.second.to_bytes(), &self.serial.to_bytes())
     }
 
     fn read(from: &[u8]) -> Option<Expiry> {
-        if from.len() != 12 {
-            return None;
-        }
-        let second = from_four(&from[0..4])?;
-        let serial = from_eight(&from[4..12])?;
+        let (second, serial) = read_parts(from)?;
         Some(Expiry { second, serial })
+    }
+}
+
+/// An expiry key is shown as SECOND:SERIAL.
+impl fmt::Display for Expiry {
+    ghost output = { λ k. Some (decimal k.second ++ (codes ":" ++ decimal k.serial)) };
+
+    fn fmt<W: fmt::Write>(&self, f: &mut fmt::Formatter<W>) -> fmt::Result {
+        let Expiry { second, serial } = *self;
+        write!(f, "{second}:{serial}")
     }
 }

@@ -7,14 +7,14 @@ ghost use Rattle.keys.specs.BytesLemmas.{length-big_endian, big_endian-apart, bi
 
 use crate::byte_form::ByteForm;
 use crate::expiry::Expiry;
-use crate::number::{from_two, two_bytes};
+use crate::number::{Number, read_number};
 use crate::order::{Ordered, same};
 use crate::token::Token;
 use std::process::Abort;
 use std::test::Fail;
 
 /// What is left of a countdown.
-#[derive(Clone, Copy)]
+#[derive(Clone, Copy, Debug, PartialEq, Eq)]
 struct Countdown {
     number: u16,
 }
@@ -35,7 +35,9 @@ impl Ordered for Countdown {
 }
 
 impl ByteForm for Countdown {
-    ghost width = { 2 };
+    const WIDTH: usize = 2;
+
+    ghost WIDTH = { 2 };
 
     ghost form = { λ k. big_endian 2 k.number };
 
@@ -49,23 +51,16 @@ impl ByteForm for Countdown {
 
     ghost every = { λ bytes l b. ap (λ w. big_endian w (number_of bytes)) (sym l) ∙ big_endian_number_of bytes b };
 
-    fn width_in_bytes() -> usize {
-        2
-    }
-
     fn write(&self, into: &mut [u8]) -> bool {
-        if into.len() != 2 {
+        if into.len() != Countdown::WIDTH {
             return false;
         }
-        into.copy_from_slice(&two_bytes(self.number));
+        into.copy_from_slice(&self.number.to_bytes());
         true
     }
 
     fn read(from: &[u8]) -> Option<Countdown> {
-        if from.len() != 2 {
-            return None;
-        }
-        let number = from_two(from)?;
+        let number = read_number(from)?;
         Some(Countdown { number })
     }
 }
@@ -80,16 +75,14 @@ fn check_order<K: Ordered>(rt: &impl Abort, first: &K, second: &K) {
 /// No form is written over those bytes, all 7, which stay as they were, and no key is read from them.
 fn check_refused<K: ByteForm>(rt: &impl Abort, key: &K, bytes: &mut [u8]) {
     assert!(rt; !key.write(bytes));
-    for byte in bytes.iter() {
-        assert!(rt; *byte == 7);
-    }
+    assert!(rt; bytes.iter().all(|byte| *byte == 7));
     assert!(rt; K::read(bytes).is_none());
 }
 
 /// A key's written form is those bytes and reads back as the key; other lengths are refused.
 fn check_form<K: ByteForm>(rt: &impl Abort, key: &K, form: &[u8]) -> Result<(), Fail> {
     let mut bytes = [7u8; 32];
-    let into = &mut bytes[0..K::width_in_bytes()];
+    let into = &mut bytes[0..K::WIDTH];
     assert!(rt; key.write(into));
     assert!(rt; same(&K::read(into).ok_or("no key")?, key));
     assert!(rt; &*into == form);
@@ -113,8 +106,8 @@ fn tokens_compare_from_the_first_byte_unsigned(rt: HostRuntime) -> Result<(), Fa
         &rt,
         &high,
         &Token {
-            first: high.first,
             second: 1 << 63,
+            ..high
         },
     );
     let written = Token {

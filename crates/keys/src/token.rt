@@ -1,16 +1,18 @@
-ghost use Rattle.std.specs.Prelude.{◌++◌, take, drop};
+ghost use Rattle.std.specs.Prelude.{Some, ◌++◌, take, drop};
 ghost use Rattle.std.proofs.Common.{length-append, rules};
 ghost use Rattle.keys.specs.Bytes.{big_endian, number_of};
+ghost use Rattle.keys.specs.Hex.{hex_of};
 ghost use Rattle.keys.specs.Order.{pair_before};
-ghost use Rattle.keys.specs.Tokens.{InByteOrder};
+ghost use Rattle.keys.specs.Tokens.{InByteOrder, token_bytes};
 ghost use Rattle.keys.specs.BytesLemmas.{length-big_endian, parts_apart, parts_every};
 
 use crate::byte_form::ByteForm;
-use crate::number::{eight_bytes, from_eight};
+use crate::number::{Number, read_parts, write_parts};
 use crate::order::Ordered;
+use std::fmt;
 
 /// An access token: 16 bytes, kept as two words with the first byte most significant.
-#[derive(Clone, Copy)]
+#[derive(Clone, Copy, Debug, PartialEq, Eq, PartialOrd, Ord, Hash)]
 pub struct Token {
     pub first: u64,
     pub second: u64,
@@ -27,13 +29,15 @@ impl Ordered for Token {
     ghost connected = { Prim.search rules };
 
     fn stands_before(&self, other: &Token) -> bool {
-        self.first < other.first || (self.first == other.first && self.second < other.second)
+        self < other
     }
 }
 
 /// A token's form is its 16 bytes.
 impl ByteForm for Token {
-    ghost width = { 16 };
+    const WIDTH: usize = 16;
+
+    ghost WIDTH = { 16 };
 
     ghost form = { λ k. big_endian 8 k.first ++ big_endian 8 k.second };
 
@@ -47,32 +51,27 @@ impl ByteForm for Token {
 
     ghost every = { λ bytes l b. parts_every 8 8 bytes l b };
 
-    fn width_in_bytes() -> usize {
-        16
-    }
-
     fn write(&self, into: &mut [u8]) -> bool {
-        if into.len() != 16 {
-            return false;
-        }
-        into[0..8].copy_from_slice(&eight_bytes(self.first));
-        into[8..16].copy_from_slice(&eight_bytes(self.second));
-        true
+        write_parts(into, &self.first.to_bytes(), &self.second.to_bytes())
     }
 
     fn read(from: &[u8]) -> Option<Token> {
-        if from.len() != 16 {
-            return None;
-        }
-        let first = from_eight(&from[0..8])?;
-        let second = from_eight(&from[8..16])?;
+        let (first, second) = read_parts(from)?;
         Some(Token { first, second })
     }
 }
 
-/// The order of tokens by their two words is that of their 16 bytes, compared unsigned from the first on.
-pub fn stands_by_bytes() -> u8
-    ensures { InByteOrder }
-{
-    0
+/// A token is shown as its 16 bytes in hex.
+impl fmt::Display for Token {
+    ghost output = { λ k. Some (hex_of (token_bytes k)) };
+
+    fn fmt<W: fmt::Write>(&self, f: &mut fmt::Formatter<W>) -> fmt::Result {
+        let Token { first, second } = *self;
+        write!(f, "{first:016x}{second:016x}")
+    }
 }
+
+/// The order of tokens by their two words is that of their 16 bytes, compared unsigned from the first on.
+pub fn stands_by_bytes()
+    ensures { InByteOrder }
+{}

@@ -4,7 +4,7 @@ use Rattle.keys.specs.Order.{Lawful}
 use Rattle.nodes.specs.Items.{lookup}
 use Rattle.laws.specs.Calls.{run, after}
 use Rattle.laws.specs.Theorem.{MapStands, start, all_items}
-use Rattle.nodes.proofs.Items.{ascending_from}
+use Rattle.nodes.proofs.ItemLists.{ascending_from}
 use Rattle.laws.proofs.Items.{ascending_ascends}
 use Rattle.laws.proofs.Leaves.{contents, contents_ascend, along, along_same}
 use Rattle.laws.proofs.Starting.{start_contents, start_invariant}

@@ -1,7 +1,8 @@
 -- what each step may rely on when it is performed
 use Rattle.std.proofs.Common.{◌≡◌, ℕ, zero, suc, ◌<◌, ◌≤◌, Bool, true, false, cond, ◌||◌, eqb, ltb, leb, List, [], ◌∷◌, length, Some, None, Option, sym, refl, ap, ◌∙◌, subst, arith}
 use Rattle.std.specs.List.{slice_get, AllByRecursion}
-use Rattle.std.proofs.lemmas.Bool.{leb-false, cases_Bool, both_ways, cond_both, eqb-true}
+use Rattle.std.proofs.lemmas.Option.{none-some, same_Some}
+use Rattle.std.proofs.lemmas.Bool.{leb-false, cases_Bool, both_ways, cond_both, eqb-true, or_parts}
 use Rattle.std.proofs.lemmas.Bool.Decides.{nat_tests}
 use Rattle.keys.specs.Order.{Lawful, same_key}
 use Rattle.keys.proofs.Laws.{same_equal}
@@ -21,9 +22,9 @@ use Rattle.bwtree.specs.Walks.{key_of, verdict, better, slot_of, beyond}
 use Rattle.laws.specs.Chains.{Chain, Base, On, attributes_of, replay, look}
 use Rattle.laws.specs.Worlds.{Node, Phase, Idle, RootRead, RootWalk, LeafRead, LeafWalk, Build, RootBuild, Swap, RootSwap, SplitSwap, PostRead, PostSwap, World, Granted, find, is_found, unchanged, holds, taken, offered}
 use Rattle.laws.specs.Acts.{Act, Reads, Fails, Goes, Ends, Replaces, Divides, Roots, Refuses, after_root_read, after_leaf_read, crosses, puts, judged, looked, end_for, value_for, swap, root_swap, split_swap, post_swap, best_after, root_look, root_walk, leaf_found, leaf_read, leaf_walk, consolidation, root_consolidation, split_at, split_slot, splitting, build, act}
-use Rattle.laws.proofs.Items.{never, none_some, some_injective, lookup_insert_other, last_has}
-use Rattle.laws.proofs.Replays.{low, high, right, size, Fits, CutAt, walk, sized}
-use Rattle.laws.proofs.Leaves.{found_slot, found_tile, past_at, sibling, Ground, find_here, all_find}
+use Rattle.laws.proofs.Items.{never, lookup_insert_other, last_has}
+use Rattle.laws.proofs.Replays.{low, high, right, size, CutAt, walk, sized}
+use Rattle.laws.proofs.Leaves.{found_slot, found_tile, past_at, sibling, Ground, find_here, all_find, fits_of}
 use Rattle.laws.proofs.Separators.{Leads, Leading, RootSound, Newest, leading_replay, root_ascending}
 use Rattle.laws.proofs.Standing.{Reach, Best, Unposted, Snapshot, RootSnapshot, unchanged_chain, Caught, Keyed, Makes, Stands, Invariant}
 
@@ -100,10 +101,6 @@ module _ {K : Type 0} (before : K → K → Bool) where
 
   -- ---- the slot that a split gets
 
-  or_parts : (x y : Bool) → (x || y) ≡ false → (x ≡ false) × (y ≡ false)
-  or_parts true y e = absurd (both_ways true e refl)
-  or_parts false y e = (refl, e)
-
   missing : (o : Option (Node K)) → is_found o ≡ false → o ≡ None
   missing None e = refl
   missing (Some l) e = absurd (both_ways true e refl)
@@ -125,16 +122,16 @@ module _ {K : Type 0} (before : K → K → Bool) where
           never (subst (λ (p : Phase K). holds n p ≡ true) (i (suc (suc (suc (suc t)))) (omega arith)) h)
 
   offered_free : (w : World K) (o : Option ℕ) (n : ℕ) → offered w o ≡ Some n → taken w n ≡ false
-  offered_free w None n e = absurd (none_some n e)
+  offered_free w None n e = absurd (none-some n e)
   offered_free w (Some i) n e = go (taken w i) refl e
     where
       go : (b : Bool) → taken w i ≡ b → cond b None (Some i) ≡ Some n → taken w n ≡ false
-      go true q f = absurd (none_some n f)
-      go false q f = subst (λ (j : ℕ). taken w j ≡ false) (some_injective i n f) q
+      go true q f = absurd (none-some n f)
+      go false q f = subst (λ (j : ℕ). taken w j ≡ false) (same_Some i n f) q
 
   nth_none : (xs : List (Item K)) (n : ℕ) → slice_get xs n ≡ None → length xs ≤ n
   nth_none [] n e = omega arith
-  nth_none (x ∷ xs) zero e = absurd (none_some x (sym e))
+  nth_none (x ∷ xs) zero e = absurd (none-some x (sym e))
   nth_none (x ∷ xs) (suc n) e = omega (arith, nth_none xs n e)
 
 module _ {K : Type 0} {before : K → K → Bool} (law : Lawful K before) (w : World K) (i : Invariant before w) (g : Granted) where
@@ -149,12 +146,8 @@ module _ {K : Type 0} {before : K → K → Bool} (law : Lawful K before) (w : W
   -- ---- the reads of the root
 
   root_read_lem : (r : Request K) → Allowed before w r (Goes (after_root_read r w.root))
-  root_read_lem (requests.Lookup k) = ((i.founded.leading, tt), λ n e. never e)
-  root_read_lem (requests.Insert k v) = ((i.founded.leading, tt), λ n e. never e)
-  root_read_lem (requests.Delete k) = ((i.founded.leading, tt), λ n e. never e)
-  root_read_lem (requests.Consolidate k) = ((i.founded.leading, tt), λ n e. never e)
-  root_read_lem (requests.Split k) = ((i.founded.leading, tt), λ n e. never e)
   root_read_lem requests.ConsolidateRoot = (root_now, λ n e. never e)
+  root_read_lem _ = ((i.founded.leading, tt), λ n e. never e)
 
   best_of : (k : K) (xs : List (Item K)) (o : Option (Item K)) → AllByRecursion (λ (x : Item K). Leads before w.leaves x.key x.value) xs → last_not_after before k xs ≡ o
       → Best before w.leaves k o
@@ -181,10 +174,6 @@ module _ {K : Type 0} {before : K → K → Bool} (law : Lawful K before) (w : W
 
   -- ---- leaf read
 
-  fits_of : (k : K) (h : Option K) → beyond before k h ≡ false → Fits before k h
-  fits_of k None e = tt
-  fits_of k (Some h) e = grind (arith, cases_Bool (before k h))
-
   -- beyond a leaf's high key its right sibling is in reach
   crosses_ok : (r : Request K) (k : K) (n : ℕ) (x : Node K) → key_of r ≡ Some k → find n w.leaves ≡ Some x → beyond before k (high x.chain) ≡ true
       → Allowed before w r (crosses (right x.chain))
@@ -202,21 +191,21 @@ module _ {K : Type 0} {before : K → K → Bool} (law : Lawful K before) (w : W
           )
 
   read_now : (r : Request K) (k : K) (x : Node K) → key_of r ≡ Some k → Caught before w x k → Allowed before w r (Reads (after_leaf_read r x))
-  read_now (requests.Lookup j) k x e c = ((subst (λ (l : K). Caught before w x l) (sym (some_injective j k e)) c, refl), λ n e. never e)
-  read_now (requests.Insert j v) k x e c = ((subst (λ (l : K). Caught before w x l) (sym (some_injective j k e)) c, refl), λ n e. never e)
-  read_now (requests.Delete j) k x e c = ((subst (λ (l : K). Caught before w x l) (sym (some_injective j k e)) c, refl), λ n e. never e)
+  read_now (requests.Lookup j) k x e c = ((subst (λ (l : K). Caught before w x l) (sym (same_Some j k e)) c, refl), λ n e. never e)
+  read_now (requests.Insert j v) k x e c = ((subst (λ (l : K). Caught before w x l) (sym (same_Some j k e)) c, refl), λ n e. never e)
+  read_now (requests.Delete j) k x e c = ((subst (λ (l : K). Caught before w x l) (sym (same_Some j k e)) c, refl), λ n e. never e)
   read_now (requests.Consolidate j) k x e c = ((tt, c.snapshot), λ n e. never e)
   read_now (requests.Split j) k x e c = ((tt, c.snapshot), λ n e. never e)
-  read_now requests.ConsolidateRoot k x e c = absurd (none_some k e)
+  read_now requests.ConsolidateRoot k x e c = absurd (none-some k e)
 
   pub caught_read : (k : K) (n : ℕ) (x : Node K) → find n w.leaves ≡ Some x → Reach before w.leaves n k → beyond before k (high x.chain) ≡ false → Caught before w x k
   caught_read k n x e h b =
       let y : h.leaf ≡ x = cc (h.is, e) in
-      record { snapshot = caught_now n x e; within = record { past = rw (← y) h.past; fits = fits_of k (high x.chain) b } }
+      record { snapshot = caught_now n x e; within = record { past = rw (← y) h.past; fits = fits_of before k (high x.chain) b } }
 
   leaf_found_lem : (r : Request K) (k : K) (n : ℕ) (o : Option (Node K)) → key_of r ≡ Some k → find n w.leaves ≡ o → Reach before w.leaves n k
       → Allowed before w r (leaf_found before r k o)
-  leaf_found_lem r k n None q e h = absurd (none_some h.leaf (sym e ∙ h.is))
+  leaf_found_lem r k n None q e h = absurd (none-some h.leaf (sym e ∙ h.is))
   leaf_found_lem r k n (Some x) q e h =
       cond_both (beyond before k (high x.chain)) _ _ (Allowed before w r) (λ b. crosses_ok r k n x q e b) (λ b. read_now r k x q (caught_read k n x e h b))
 
@@ -267,9 +256,7 @@ module _ {K : Type 0} {before : K → K → Bool} (law : Lawful K before) (w : W
   leaf_walk_lem (requests.Lookup k) x at h = leaf_look (requests.Lookup k) k x (λ o e. decide_lookup k x o) (λ c e. (h.0, e)) at h.1
   leaf_walk_lem (requests.Insert k v) x at h = leaf_look (requests.Insert k v) k x (λ o e. decide_insert k v x o h.0 e) (λ c e. (h.0, e)) at h.1
   leaf_walk_lem (requests.Delete k) x at h = leaf_look (requests.Delete k) k x (λ o e. decide_delete k x o h.0 e) (λ c e. (h.0, e)) at h.1
-  leaf_walk_lem (requests.Consolidate k) x at h = absurd h
-  leaf_walk_lem (requests.Split k) x at h = absurd h
-  leaf_walk_lem requests.ConsolidateRoot x at h = absurd h
+  leaf_walk_lem _ x at h = absurd h
 
   -- ---- build
 
@@ -287,7 +274,7 @@ module _ {K : Type 0} {before : K → K → Bool} (law : Lawful K before) (w : W
   split_at_lem : (r : Request K) (x : Node K) (target : ℕ) (o : Option (Item K)) → Snapshot before w x → taken w target ≡ false → 2 ≤ size x.chain
       → slice_get (replay before x.chain) (cut (size x.chain)) ≡ o → Allowed before w r (split_at before x target o)
   split_at_lem r x target None s t z e =
-      let y : ⊥ = omega (arith, nth_none before (replay before x.chain) (cut (size x.chain)) e, sized law x.chain s.sound, z) in absurd y
+      absurd (omega (arith, nth_none before (replay before x.chain) (cut (size x.chain)) e, sized law x.chain s.sound, z))
   split_at_lem r x target (Some item) s t z e =
       ((s, record { some = omega (arith, z); item = item; there = e; key = refl }, untaken_find before w target t), λ n h. subst (λ (j : ℕ). taken w j ≡ false) (sym (eqb-true n target h)) t)
 
@@ -302,22 +289,17 @@ module _ {K : Type 0} {before : K → K → Bool} (law : Lawful K before) (w : W
       (λ b. cond_both g.frame _ _ (Allowed before w r) (λ _. split_slot_lem r x (offered w g.slot) s (λ n e. offered_free before w g.slot n e) (grind (arith, nat_tests))) (λ _. tt))
 
   build_ok : (r : Request K) (x : Node K) → Stands before w r (Build x) → Allowed before w r (build before w g x r)
-  build_ok (requests.Lookup k) x h = absurd h.0
-  build_ok (requests.Insert k v) x h = absurd h.0
-  build_ok (requests.Delete k) x h = absurd h.0
   build_ok (requests.Consolidate k) x h = consolidation_ok k x h.1
   build_ok (requests.Split k) x h = splitting_ok (requests.Split k) x h.1
-  build_ok requests.ConsolidateRoot x h = absurd h.0
+  build_ok _ x h = absurd h.0
 
   -- ---- swaps
 
   makes_end : (r : Request K) (b c : Chain K) → Makes before r b c → (e : End) × (end_for c ≡ Some e)
-  makes_end (requests.Lookup k) b c m = absurd m
   makes_end (requests.Insert k v) b c m = (ends.Stored, ap end_for m.1)
   makes_end (requests.Delete k) b c m = (ends.Removed, ap end_for m.2)
   makes_end (requests.Consolidate k) b c m = (ends.Consolidated, ap end_for m)
-  makes_end (requests.Split k) b c m = absurd m
-  makes_end requests.ConsolidateRoot b c m = absurd m
+  makes_end _ b c m = absurd m
 
   swap_ok : (r : Request K) (x : Node K) (c : Chain K) → Stands before w r (Swap x c) → Allowed before w r (swap w x c)
   swap_ok r x c h =

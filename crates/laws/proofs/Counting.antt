@@ -3,7 +3,7 @@ use Rattle.std.proofs.Common.{◌≡◌, ℕ, ◌+◌, ◌≤◌, Bool, true, fa
 use Rattle.std.proofs.lemmas.Bool.{cases_Bool, cond_both, eqb-true, eq-eqb}
 use Rattle.std.proofs.lemmas.Bool.Decides.{nat_tests}
 use Rattle.bwtree.specs.declared.seat.Request.{Request}
-use Rattle.laws.specs.Worlds.{Phase, Idle, RootRead, RootWalk, LeafRead, LeafWalk, Build, RootBuild, Swap, RootSwap, SplitSwap, PostRead, PostSwap, World, Granted, unchanged, Call, Begin, Step, Tell}
+use Rattle.laws.specs.Worlds.{Phase, Idle, LeafWalk, Build, RootBuild, Swap, RootSwap, SplitSwap, PostSwap, World, Granted, unchanged, Call, Begin, Step, Tell}
 use Rattle.laws.specs.Acts.{Act, Reads, Fails, Goes, Ends, Replaces, Divides, Roots, Refuses, act}
 use Rattle.laws.specs.Calls.{Turn, Made, at, perform, begin, is_idle, seat_of, seated, taking, run, after}
 use Rattle.laws.specs.Histories.{one_failed, one_installed, installed_in, failed_by, installed_by_others}
@@ -16,32 +16,24 @@ one false = omega arith
 module _ {K : Type 0} where
   -- the same leaves and root
   pub stale_same : (w v : World K) → v.leaves ≡ w.leaves → v.root ≡ w.root → (p : Phase K) → stale v p ≡ stale w p
-  stale_same w v l r Idle = refl
-  stale_same w v l r RootRead = refl
-  stale_same w v l r (RootWalk a b) = refl
-  stale_same w v l r (LeafRead n) = refl
   stale_same w v l r (LeafWalk x c) = rw l refl
   stale_same w v l r (Build x) = rw l refl
   stale_same w v l r (RootBuild x) = rw r refl
   stale_same w v l r (Swap x c) = rw l refl
   stale_same w v l r (RootSwap x) = rw r refl
   stale_same w v l r (SplitSwap x k n) = rw l refl
-  stale_same w v l r (PostRead k n d z) = refl
   stale_same w v l r (PostSwap x k n d z) = rw r refl
+  stale_same w v l r _ = refl
 
   stale_one : (w : World K) (p : Phase K) → stale w p ≤ 1
-  stale_one w Idle = omega arith
-  stale_one w RootRead = omega arith
-  stale_one w (RootWalk a b) = omega arith
-  stale_one w (LeafRead n) = omega arith
   stale_one w (LeafWalk x c) = one (unchanged w.leaves x)
   stale_one w (Build x) = one (unchanged w.leaves x)
   stale_one w (RootBuild x) = one (eqb w.root.stamp x.stamp)
   stale_one w (Swap x c) = one (unchanged w.leaves x)
   stale_one w (RootSwap x) = one (eqb w.root.stamp x.stamp)
   stale_one w (SplitSwap x k n) = one (unchanged w.leaves x)
-  stale_one w (PostRead k n d z) = omega arith
   stale_one w (PostSwap x k n d z) = one (eqb w.root.stamp x.stamp)
+  stale_one w _ = omega arith
 
 module _ {K : Type 0} (before : K → K → Bool) (w : World K) (s : ℕ) where
   -- a call of the seat itself, and one of another
@@ -58,11 +50,8 @@ module _ {K : Type 0} (before : K → K → Bool) (w : World K) (s : ℕ) where
   own_perform (Reads p) h = rw (eq-eqb s s refl) (omega (arith, stale_at p, h))
   own_perform (Fails p) h = rw (eq-eqb s s refl) (omega (arith, stale_at p, h))
   own_perform (Goes p) h = rw (eq-eqb s s refl) (omega (arith, stale_at p, h.0))
-  own_perform (Ends e v d n) h = rw (eq-eqb s s refl) (omega arith)
-  own_perform (Replaces n c e v) h = rw (eq-eqb s s refl) (omega arith)
-  own_perform (Divides n c k target) h = rw (eq-eqb s s refl) (omega arith)
-  own_perform (Roots c e d n) h = rw (eq-eqb s s refl) (omega arith)
   own_perform (Refuses x) h = omega arith
+  own_perform _ h = rw (eq-eqb s s refl) (omega arith)
 
   own_begin : (r : Request K) (b : Bool) → Own (begin w s r b)
   own_begin r true = rw (eq-eqb s s refl) (omega arith)

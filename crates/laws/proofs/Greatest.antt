@@ -1,5 +1,6 @@
 -- a root walk leads to the greatest separator that does not stand after the key
 use Rattle.std.proofs.Common.{◌≡◌, ℕ, Bool, true, false, cond, List, [], ◌∷◌, Some, None, Option, sym, refl, ap, ◌∙◌, subst, arith}
+use Rattle.std.proofs.lemmas.Option.{none-some}
 use Rattle.std.proofs.lemmas.Bool.{both_ways, cond_both}
 use Rattle.keys.specs.Order.{Lawful, same_key}
 use Rattle.keys.proofs.Laws.{asymmetric, before_not_after, same_equal}
@@ -11,8 +12,8 @@ use Rattle.laws.specs.Chains.{Chain, Base, On, replay}
 use Rattle.laws.specs.Acts.{best_after}
 use Rattle.laws.specs.Worlds.{LeafRead}
 use Rattle.laws.specs.Trees.{RootWalks, arrives, further, slot_for}
-use Rattle.nodes.proofs.Items.{Ascending, Over, over_weaker}
-use Rattle.laws.proofs.Items.{none_some, lookup_insert_same, lookup_insert_other, last_has}
+use Rattle.nodes.proofs.ItemLists.{Ascending, Over, over_weaker}
+use Rattle.laws.proofs.Items.{lookup_insert_same, lookup_insert_other, last_has}
 use Rattle.laws.proofs.Separators.{RootSound, root_ascending}
 
 module _ {K : Type 0} (before : K → K → Bool) where
@@ -67,7 +68,7 @@ module _ {K : Type 0} {before : K → K → Bool} (law : Lawful K before) where
         go ih true p b q = front (x ∷ xs) (p, over_weaker before law j x.key xs p s.0) (before k j) refl (last_not_after before k (x ∷ xs)) refl
         go ih false p true q =
             rw (ih (grind (arith, m, p, q))) (behind x q (before k x.key) (before k j) refl refl (last_not_after before k xs))
-        go ih false p false q = absurd (none_some x.value (sym m ∙ grind (arith, p, q)))
+        go ih false p false q = absurd (none-some x.value (sym m ∙ grind (arith, p, q)))
 
   -- ---- the best of the records, one record further down
 
@@ -133,7 +134,7 @@ module _ {K : Type 0} {before : K → K → Bool} (law : Lawful K before) (first
     unlike (Some b) a = differ (same_key before b.key j) refl
       where
         differ : (d : Bool) → same_key before b.key j ≡ d → d ≡ false
-        differ true e = absurd (none_some n (sym a ∙ ap (λ (i : K). lookup before i (insert before j n (replay before c))) (same_equal law b.key j e) ∙ lookup_insert_same law j n (replay before c)))
+        differ true e = absurd (none-some n (sym a ∙ ap (λ (i : K). lookup before i (insert before j n (replay before c))) (same_equal law b.key j e) ∙ lookup_insert_same law j n (replay before c)))
         differ false e = refl
 
     apart_below : (best : Option (Item K)) → Apart before best (On kinds.Separator j n c) → lookup before j (replay before c) ≡ None
@@ -147,9 +148,9 @@ module _ {K : Type 0} {before : K → K → Bool} (law : Lawful K before) (first
   root_walks : (c : Chain K) (best : Option (Item K)) → RootSound before c → Apart before best c
       → RootWalks before first k best c (slot_for before first (greater before best (last_not_after before k (replay before c))))
   root_walks (Base l h r xs) best s a = arrives (ap LeafRead (slot_greater before first best (last_not_after before k xs)))
-  root_walks (On kinds.Insertion j n c) best s a = let z : ◌≡◌ {A = ℕ} 0 1 = grind (arith, s.1) in let y : ⊥ = omega (arith, z) in absurd y
-  root_walks (On kinds.Deletion j n c) best s a = let z : ◌≡◌ {A = ℕ} 0 1 = grind (arith, s.1) in let y : ⊥ = omega (arith, z) in absurd y
-  root_walks (On kinds.Split j n c) best s a = let z : ◌≡◌ {A = ℕ} 0 1 = grind (arith, s.1) in let y : ⊥ = omega (arith, z) in absurd y
+  root_walks (On kinds.Insertion j n c) best s a = absurd (grind (arith, s.1))
+  root_walks (On kinds.Deletion j n c) best s a = absurd (grind (arith, s.1))
+  root_walks (On kinds.Split j n c) best s a = absurd (grind (arith, s.1))
   root_walks (On kinds.Separator j n c) best s a =
       further refl
       (subst (λ (o : Option (Item K)). RootWalks before first k (best_after before k best j n kinds.Separator) c (slot_for before first o))

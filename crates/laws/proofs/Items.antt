@@ -1,27 +1,19 @@
 -- ascending lists of items: look-up, insertion, deletion, cutting, appending
 use Rattle.std.proofs.Common.{◌≡◌, ℕ, zero, suc, ◌<◌, Bool, true, false, cond, List, [], ◌∷◌, ◌++◌, length, take, drop, Some, None, Option, sym, refl, ◌∙◌, subst, arith}
 use Rattle.std.specs.List.{slice_get, AllByRecursion}
+use Rattle.std.specs.Option.{is_none}
 use Rattle.std.proofs.ByRecursion.{All-append, All-weaker}
-use Rattle.std.proofs.lemmas.Bool.{both_ways, cond_both, and_from}
+use Rattle.std.proofs.lemmas.Option.{none-some, same_Some}
+use Rattle.std.proofs.lemmas.Bool.{cond_both, and_from, false≢true}
 use Rattle.keys.specs.Order.{Lawful, same_key}
 use Rattle.keys.proofs.Laws.{asymmetric, same_equal, before_not_after}
-use Rattle.nodes.proofs.Items.{Ascending, Over, Under, lookup_over, over_weaker}
+use Rattle.nodes.proofs.ItemLists.{Ascending, Over, Under, lookup_over, over_weaker}
 use Rattle.nodes.specs.declared.node.Item.{Item}
 use Rattle.nodes.specs.Items.{lookup, insert, remove, below, all_after, ascends, last_not_after, or_else}
 
-abbrev pub is_none : {A : Type 0} → Option A → Bool
-is_none None = true
-is_none (Some a) = false
-
 -- nothing is both false and true
 pub never : {A : Type 0} → ◌≡◌ {A = Bool} false true → A
-never e = absurd (both_ways false refl e)
-
-pub none_some : {A : Type 0} (a : A) → ◌≡◌ {A = Option A} None (Some a) → ⊥
-none_some a e = grind arith
-
-pub some_injective : {A : Type 0} (a b : A) → ◌≡◌ {A = Option A} (Some a) (Some b) → a ≡ b
-some_injective a b e = cc
+never e = absurd (false≢true e)
 
 module _ {K : Type 0} (before : K → K → Bool) where
   -- no key stands before a
@@ -114,26 +106,26 @@ module _ {K : Type 0} {before : K → K → Bool} (law : Lawful K before) where
   -- ---- cutting before the item at a place
 
   pub all_nth : (P : Item K → Type 0) (xs : List (Item K)) (n : ℕ) (x : Item K) → slice_get xs n ≡ Some x → AllByRecursion P xs → P x
-  all_nth P [] n x e a = absurd (none_some x e)
-  all_nth P (y ∷ ys) zero x e a = rw (sym (some_injective y x e)) a.0
+  all_nth P [] n x e a = absurd (none-some x e)
+  all_nth P (y ∷ ys) zero x e a = rw (sym (same_Some y x e)) a.0
   all_nth P (y ∷ ys) (suc n) x e a = all_nth P ys n x e a.1
 
   pub nth_place : (xs : List (Item K)) (n : ℕ) (x : Item K) → slice_get xs n ≡ Some x → n < length xs
-  nth_place [] n x e = absurd (none_some x e)
+  nth_place [] n x e = absurd (none-some x e)
   nth_place (y ∷ ys) zero x e = omega arith
   nth_place (y ∷ ys) (suc n) x e = omega (arith, nth_place ys n x e)
 
   -- the items before the key at place n are the first n
   pub below_take : (xs : List (Item K)) (n : ℕ) (x : Item K) → slice_get xs n ≡ Some x → Ascending before xs → below before x.key xs ≡ take n xs
-  below_take [] n x e s = absurd (none_some x e)
-  below_take (y ∷ ys) zero x e s = rw (← some_injective y x e) (grind (arith, law.irreflexive y.key))
+  below_take [] n x e s = absurd (none-some x e)
+  below_take (y ∷ ys) zero x e s = rw (← same_Some y x e) (grind (arith, law.irreflexive y.key))
   below_take (y ∷ ys) (suc n) x e s =
       grind (arith, all_nth (λ z. before y.key z.key ≡ true) ys n x e s.0, below_take ys n x e s.1)
 
   pub from_drop : (xs : List (Item K)) (n : ℕ) (x : Item K) → slice_get xs n ≡ Some x → Ascending before xs → From before x.key (drop n xs)
-  from_drop [] n x e s = absurd (none_some x e)
+  from_drop [] n x e s = absurd (none-some x e)
   from_drop (y ∷ ys) zero x e s =
-      subst (λ (i : Item K). From before i.key (y ∷ ys)) (some_injective y x e)
+      subst (λ (i : Item K). From before i.key (y ∷ ys)) (same_Some y x e)
       (law.irreflexive y.key, All-weaker (λ z. before y.key z.key ≡ true) (λ z. before z.key y.key ≡ false) (λ z p. asymmetric law y.key z.key p) ys s.0)
   from_drop (y ∷ ys) (suc n) x e s = from_drop ys n x e s.1
 
@@ -149,11 +141,11 @@ module _ {K : Type 0} {before : K → K → Bool} (law : Lawful K before) where
   -- ---- the last item that does not stand after a key
 
   pub last_has : (P : Item K → Type 0) (k : K) (xs : List (Item K)) (x : Item K) → AllByRecursion P xs → last_not_after before k xs ≡ Some x → P x × (before k x.key ≡ false)
-  last_has P k [] x a e = absurd (none_some x e)
+  last_has P k [] x a e = absurd (none-some x e)
   last_has P k (y ∷ ys) x a e = go (last_has P k ys x a.1) (before k y.key) refl (last_not_after before k ys) refl e
     where
       go : (last_not_after before k ys ≡ Some x → P x × (before k x.key ≡ false)) → (b : Bool) → before k y.key ≡ b → (o : Option (Item K))
           → last_not_after before k ys ≡ o → cond b None (or_else o (Some y)) ≡ Some x → P x × (before k x.key ≡ false)
-      go ih true q o d f = absurd (none_some x f)
-      go ih false q None d f = let i = some_injective y x f in (rw (← i) a.0, rw (← i) q)
+      go ih true q o d f = absurd (none-some x f)
+      go ih false q None d f = let i = same_Some y x f in (rw (← i) a.0, rw (← i) q)
       go ih false q (Some z) d f = ih (d ∙ f)

@@ -2,6 +2,7 @@
 use Rattle.std.proofs.Common.{◌≡◌, ℕ, suc, ◌<◌, ◌≤◌, Bool, true, false, cond, eqb, ltb, List, [], ◌∷◌, ◌++◌, Some, None, Option, sym, refl, ap, ◌∙◌, subst, inl, inr, ⊎_elim, arith}
 use Rattle.std.specs.List.{AllByRecursion}
 use Rattle.std.proofs.ByRecursion.{All-weaker}
+use Rattle.std.proofs.lemmas.Option.{none-some, same_Some}
 use Rattle.std.proofs.lemmas.Bool.{cases_Bool, both_ways, cond_both, eqb-true, eq-eqb, ltb-true}
 use Rattle.std.proofs.lemmas.Bool.Decides.{nat_tests}
 use Rattle.keys.specs.Order.{Lawful}
@@ -10,10 +11,10 @@ use Rattle.bwtree.specs.declared.seat.Request.{Request}
 use Rattle.bwtree.specs.declared.seat.Request.TheVariants as requests
 use Rattle.bwtree.specs.Deltas.{cut}
 use Rattle.laws.specs.Chains.{Chain, On, upper}
-use Rattle.laws.specs.Worlds.{Node, Phase, Idle, RootRead, RootWalk, LeafRead, LeafWalk, Build, RootBuild, Swap, RootSwap, SplitSwap, PostRead, PostSwap, Seat, World, Granted, find, sit, holds, Call, Begin, Step, Tell}
+use Rattle.laws.specs.Worlds.{Node, Phase, Idle, RootRead, SplitSwap, PostRead, PostSwap, Seat, World, Granted, find, sit, holds, Call, Begin, Step, Tell}
 use Rattle.laws.specs.Acts.{Act, Reads, Fails, Goes, Ends, Replaces, Divides, Roots, Refuses, act}
 use Rattle.laws.specs.Calls.{at, placed, rooted, divided, perform, begin, is_idle, seat_of, seated, Turn, Made, taking}
-use Rattle.laws.proofs.Items.{never, none_some, some_injective}
+use Rattle.laws.proofs.Items.{never}
 use Rattle.laws.proofs.Replays.{low, high, right, size, Fits, Wide, Sound, CutAt, walked, consolidated_sound, cut_wide, cut_within, upper_sound}
 use Rattle.laws.proofs.Leaves.{node, find_here, find_cases, find_missing, missing_head, find_neither, found_tile, find_splice_same, find_splice_other, find_splice_new, find_splice_none, all_splice, Absent, Follows, Tiled, wide_at, tiled_splice, ground_splice}
 use Rattle.laws.proofs.Separators.{Leads, Leading, RootSound, Newest, none_leads, root_without}
@@ -29,33 +30,14 @@ module _ {K : Type 0} where
 module _ {K : Type 0} (before : K → K → Bool) where
   -- a slot that a seat holds has no leaf
   held_empty : (v : World K) (r : Request K) (p : Phase K) (n : ℕ) → Stands before v r p → holds n p ≡ true → find n v.leaves ≡ None
-  held_empty v r Idle n h e = never e
-  held_empty v r RootRead n h e = never e
-  held_empty v r (RootWalk a b) n h e = never e
-  held_empty v r (LeafRead m) n h e = never e
-  held_empty v r (LeafWalk x c) n h e = never e
-  held_empty v r (Build x) n h e = never e
-  held_empty v r (RootBuild x) n h e = never e
-  held_empty v r (Swap x c) n h e = never e
-  held_empty v r (RootSwap x) n h e = never e
   held_empty v r (SplitSwap x k m) n h e = rw (eqb-true n m e) h.2
-  held_empty v r (PostRead k m d z) n h e = never e
-  held_empty v r (PostSwap x k m d z) n h e = never e
+  held_empty v r _ n h e = never e
 
   -- a key that a seat is to post is a leaf's low key, and not in the root
   to_post : (v : World K) (r : Request K) (p : Phase K) (j : K) → Stands before v r p → Posts p j → ((n : ℕ) × Leads before v.leaves j n) × Unposted before v j
-  to_post v r Idle j h e = absurd e
-  to_post v r RootRead j h e = absurd e
-  to_post v r (RootWalk a b) j h e = absurd e
-  to_post v r (LeafRead m) j h e = absurd e
-  to_post v r (LeafWalk x c) j h e = absurd e
-  to_post v r (Build x) j h e = absurd e
-  to_post v r (RootBuild x) j h e = absurd e
-  to_post v r (Swap x c) j h e = absurd e
-  to_post v r (RootSwap x) j h e = absurd e
-  to_post v r (SplitSwap x k m) j h e = absurd e
   to_post v r (PostRead k n d z) j h e = rw e ((n, h.0), h.1)
   to_post v r (PostSwap x k n d z) j h e = rw e ((n, h.1), h.2)
+  to_post v r _ j h e = absurd e
 
   -- the leaves and the root become those of v, and the seat s is set
   module _ (w v : World K) (i : Invariant before w) (g : Grows w v) (f : Founded before v) (s : ℕ) (small : s < 4) (x : Seat K)
@@ -87,7 +69,7 @@ module _ {K : Type 0} (before : K → K → Bool) where
     single_kept t u k d false false p o h q = i.single t u k d h q
 
     idle_kept : (t : ℕ) → 4 ≤ t → (b : Bool) → eqb t s ≡ b → (cond b x (w.seats t)).phase ≡ Idle
-    idle_kept t l true e = let z : ⊥ = omega (arith, small, l, eqb-true t s e) in absurd z
+    idle_kept t l true e = absurd (omega (arith, small, l, eqb-true t s e))
     idle_kept t l false e = i.idle t l
 
     pub set_kept : Invariant before next
@@ -145,12 +127,12 @@ module _ {K : Type 0} (before : K → K → Bool) where
       where
         not_more : (o : Option (Node K)) → find j more ≡ o → o ≡ None
         not_more None q = refl
-        not_more (Some y) q = absurd (none_some m (sym (absent j y q) ∙ h))
+        not_more (Some y) q = absurd (none-some m (sym (absent j y q) ∙ h))
 
         go : (b : Bool) → eqb j n ≡ b → Grown w.clock j m (placed w n c more).leaves
         go true q =
             let d = eqb-true j n q in
-            let a : m ≡ l = some_injective m l (sym h ∙ ap (λ (i : ℕ). find i w.leaves) d ∙ e) in
+            let a : m ≡ l = same_Some m l (sym h ∙ ap (λ (i : ℕ). find i w.leaves) d ∙ e) in
             record { now = node n w.clock c; is = rw d (find_splice_same n w.clock c more w.leaves l e); low_is = low_is ∙ ap (λ (z : Node K). low z.chain) (sym a); either = inr (omega arith) }
         go false q = record { now = m; is = find_splice_other n w.clock j c more w.leaves q (not_more (find j more) refl) ∙ h; low_is = refl; either = inl refl }
 
@@ -229,8 +211,8 @@ module _ {K : Type 0} {before : K → K → Bool} (law : Lawful K before) where
 
     replaced_kept : (n : ℕ) (c : Chain K) (l : Node K) → find n w.leaves ≡ Some l → Fitting before l.chain c → Invariant before (at (placed w n c []) s Idle)
     replaced_kept n c l e f =
-        set_kept before w (placed w n c []) i (placed_grows before w n l c [] e f.low_is (λ j y q. absurd (none_some y q)))
-        (placed_founded before w n l c [] e f.low_is (λ j y q. absurd (none_some y q)) i.founded tt (replaced_fit before n w.clock l c f))
+        set_kept before w (placed w n c []) i (placed_grows before w n l c [] e f.low_is (λ j y q. absurd (none-some y q)))
+        (placed_founded before w n l c [] e f.low_is (λ j y q. absurd (none-some y q)) i.founded tt (replaced_fit before n w.clock l c f))
         s small (record { request = (w.seats s).request; phase = Idle }) (λ t j d h. empty_slot_lem n t j l c [] e refl h) tt (λ j t q. never q) (λ t k d h. others_unposted t k h) (λ k t h. absurd h)
 
     divided_kept : (n : ℕ) (l : Node K) (k : K) (target d z : ℕ) → find n w.leaves ≡ Some l → CutAt before (cut (size l.chain)) k l.chain
@@ -261,7 +243,7 @@ module _ {K : Type 0} {before : K → K → Bool} (law : Lawful K before) where
 
         absent : Absent more w.leaves
         absent j x q =
-            ⊎_elim (λ o. rw (eqb-true j target o.0) a) (λ o. absurd (none_some x o.1)) (find_cases j y [] x q)
+            ⊎_elim (λ o. rw (eqb-true j target o.0) a) (λ o. absurd (none-some x o.1)) (find_cases j y [] x q)
 
         empty : (t j : ℕ) → eqb t s ≡ false → holds j (w.seats t).phase ≡ true → find j (divided before w n l.chain k target).leaves ≡ None
         empty t j o q =

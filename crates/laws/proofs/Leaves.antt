@@ -2,17 +2,19 @@
 use Rattle.std.proofs.Common.{◌≡◌, ℕ, Bool, true, false, cond, eqb, ◌⊎◌, List, [], ◌∷◌, ◌++◌, Some, None, Option, sym, refl, ap, ◌∙◌, subst, inl, inr, ⊎_elim, append_assoc, append-nil, arith}
 use Rattle.std.specs.List.{AllByRecursion}
 use Rattle.std.proofs.ByRecursion.{All-append, All-weaker}
+use Rattle.std.proofs.lemmas.Option.{none-some, same_Some}
 use Rattle.std.proofs.lemmas.Bool.{cases_Bool, cond_both, eqb-true, eq-eqb}
 use Rattle.std.proofs.lemmas.Bool.Decides.{nat_tests}
 use Rattle.keys.specs.Order.{Lawful, same_key}
 use Rattle.keys.proofs.Laws.{same_equal}
 use Rattle.nodes.specs.declared.node.Item.{Item}
 use Rattle.nodes.specs.Items.{lookup}
+use Rattle.bwtree.specs.Walks.{beyond}
 use Rattle.laws.specs.Chains.{Chain, replay}
 use Rattle.laws.specs.Worlds.{Node, find, splice}
 use Rattle.laws.specs.Theorem.{Along, last, then_right}
-use Rattle.nodes.proofs.Items.{Ascending, Under}
-use Rattle.laws.proofs.Items.{none_some, some_injective, From, lookup_append, lookup_under, lookup_from, ascending_append}
+use Rattle.nodes.proofs.ItemLists.{Ascending, Under}
+use Rattle.laws.proofs.Items.{From, lookup_append, lookup_under, lookup_from, ascending_append}
 use Rattle.laws.proofs.Replays.{low, high, right, Fits, Past, Within, Wide, Sound, ascending, bounded}
 
 module _ {K : Type 0} where
@@ -48,15 +50,15 @@ module _ {K : Type 0} where
   -- a slot of ms that is not x's
   pub find_skip : (x : Node K) (ms : List (Node K)) (i : ℕ) (m : Node K) → find x.slot ms ≡ None → find i ms ≡ Some m → find i (x ∷ ms) ≡ Some m
   find_skip x ms i m a e =
-      ⊎_elim (λ q. let z : find x.slot ms ≡ Some m = rw (← eqb-true i x.slot q) e in absurd (none_some m (sym a ∙ z)))
+      ⊎_elim (λ q. let z : find x.slot ms ≡ Some m = rw (← eqb-true i x.slot q) e in absurd (none-some m (sym a ∙ z)))
       (λ q. rw q e) (cases_Bool (eqb i x.slot))
 
   pub found_slot : (n : ℕ) (ls : List (Node K)) (l : Node K) → find n ls ≡ Some l → l.slot ≡ n
-  found_slot n [] l e = absurd (none_some l e)
+  found_slot n [] l e = absurd (none-some l e)
   found_slot n (m ∷ ms) l e = ⊎_elim (λ q. rw (← q.1) (sym (eqb-true n m.slot q.0))) (λ q. found_slot n ms l q.1) (find_cases n m ms l e)
 
   pub all_find : (P : Node K → Type 0) (n : ℕ) (ls : List (Node K)) (l : Node K) → AllByRecursion P ls → find n ls ≡ Some l → P l
-  all_find P n [] l a e = absurd (none_some l e)
+  all_find P n [] l a e = absurd (none-some l e)
   all_find P n (m ∷ ms) l a e = ⊎_elim (λ q. subst P q.1 a.0) (λ q. all_find P n ms l a.1 q.1) (find_cases n m ms l e)
 
   pub all_splice : (P : Node K → Type 0) (n : ℕ) (x : Node K) (more ls : List (Node K)) → P x → AllByRecursion P more → AllByRecursion P ls → AllByRecursion P (splice n x more ls)
@@ -64,7 +66,7 @@ module _ {K : Type 0} where
   all_splice P n x more (l ∷ ls) p m a = cond_both (eqb n l.slot) _ _ (AllByRecursion P) (λ _. (p, All-append P more ls m a.1)) (λ _. (a.0, all_splice P n x more ls p m a.1))
 
   pub find_splice_same : (n t : ℕ) (c : Chain K) (more ls : List (Node K)) (l : Node K) → find n ls ≡ Some l → find n (splice n (node n t c) more ls) ≡ Some (node n t c)
-  find_splice_same n t c more [] l e = absurd (none_some l e)
+  find_splice_same n t c more [] l e = absurd (none-some l e)
   find_splice_same n t c more (m ∷ ms) l e =
       ⊎_elim (λ q. rw q.0 (find_here (node n t c) (more ++ ms))) (λ q. rw q.0 (rw q.0 (find_splice_same n t c more ms l q.1))) (find_cases n m ms l e)
 
@@ -75,7 +77,7 @@ module _ {K : Type 0} where
   -- a node that comes in beside the one in slot n
   pub find_splice_new : (n t : ℕ) (c : Chain K) (y : Node K) (ls : List (Node K)) (l : Node K) → find n ls ≡ Some l → find y.slot ls ≡ None
       → find y.slot (splice n (node n t c) (y ∷ []) ls) ≡ Some y
-  find_splice_new n t c y [] l e f = absurd (none_some l e)
+  find_splice_new n t c y [] l e f = absurd (none-some l e)
   find_splice_new n t c y (m ∷ ms) l e f =
       let o = missing_head y.slot m ms f in
       ⊎_elim (λ q. let z : eqb y.slot n ≡ false = rw (eqb-true n m.slot q.0) o in rw q.0 (rw z (find_here y ms)))
@@ -85,7 +87,7 @@ module _ {K : Type 0} where
   pub find_splice_none : (n t i : ℕ) (c : Chain K) (more ls : List (Node K)) (l : Node K) → find n ls ≡ Some l → find i ls ≡ None → find i more ≡ None
       → find i (splice n (node n t c) more ls) ≡ None
   find_splice_none n t i c more ls l e f m =
-      ⊎_elim (λ q. absurd (none_some l (sym f ∙ ap (λ (j : ℕ). find j ls) (eqb-true i n q) ∙ e))) (λ q. find_splice_other n t i c more ls q m ∙ f) (cases_Bool (eqb i n))
+      ⊎_elim (λ q. absurd (none-some l (sym f ∙ ap (λ (j : ℕ). find j ls) (eqb-true i n q) ∙ e))) (λ q. find_splice_other n t i c more ls q m ∙ f) (cases_Bool (eqb i n))
 
   -- no slot of `more` is a slot of ls
   abbrev pub Absent : List (Node K) → List (Node K) → Type 0
@@ -99,7 +101,7 @@ module _ {K : Type 0} where
     where
       go : (o : Option (Node K)) → find m.slot more ≡ o → o ≡ None
       go None e = refl
-      go (Some y) e = absurd (none_some m (sym (a m.slot y e) ∙ find_here m ms))
+      go (Some y) e = absurd (none-some m (sym (a m.slot y e) ∙ find_here m ms))
 
 module _ {K : Type 0} (before : K → K → Bool) where
   -- the items of all leaves
@@ -132,6 +134,10 @@ module _ {K : Type 0} (before : K → K → Bool) where
 
   pub fits_at : (k : K) (l m : Option K) → l ≡ m → Fits before k l → Fits before k m
   fits_at k l m e p = rw e at p
+
+  pub fits_of : (k : K) (h : Option K) → beyond before k h ≡ false → Fits before k h
+  fits_of k None e = tt
+  fits_of k (Some h) e = grind (arith, cases_Bool (before k h))
 
   pub wide_at : (l m h i : Option K) → l ≡ m → h ≡ i → Wide before l h → Wide before m i
   wide_at l m h i e f p = rw f at (rw e at p)
@@ -186,7 +192,7 @@ module _ {K : Type 0} {before : K → K → Bool} (law : Lawful K before) where
   -- a key past the low key of a leaf further on is past the first one's
   pub past_first : (k : K) (n : ℕ) (m : Node K) (ms : List (Node K)) (l : Node K) → Tiled before (m ∷ ms) → find n (m ∷ ms) ≡ Some l → Past before (low l.chain) k
       → Past before (low m.chain) k
-  past_first k n m [] l t e p = ⊎_elim (λ q. rw q.1 p) (λ q. absurd (none_some l q.1)) (find_cases n m [] l e)
+  past_first k n m [] l t e p = ⊎_elim (λ q. rw q.1 p) (λ q. absurd (none-some l q.1)) (find_cases n m [] l e)
   past_first k n m (o ∷ os) l t e p =
       let g = t.0.follows in
       ⊎_elim (λ q. rw q.1 p)
@@ -197,7 +203,7 @@ module _ {K : Type 0} {before : K → K → Bool} (law : Lawful K before) where
   -- and what stands left of that leaf holds nothing of the key
   nothing_left : (k : K) (n : ℕ) (m : Node K) (ms : List (Node K)) (l : Node K) → Tiled before (m ∷ ms) → find n ms ≡ Some l → Past before (low l.chain) k
       → lookup before k (replay before m.chain) ≡ None
-  nothing_left k n m [] l t e p = absurd (none_some l e)
+  nothing_left k n m [] l t e p = absurd (none-some l e)
   nothing_left k n m (o ∷ os) l t e p =
       let g = t.0.follows in
       lookup_under law k g.0 (replay before m.chain) (past_at before k (low o.chain) (Some g.0) g.3 (past_first k n o os l t.1 e p)) (under_high m.chain g.0 t.0.sound g.1)
@@ -205,7 +211,7 @@ module _ {K : Type 0} {before : K → K → Bool} (law : Lawful K before) where
   -- a key within a leaf's bounds is looked up there
   pub lookup_leaf : (k : K) (n : ℕ) (ls : List (Node K)) (l : Node K) → Tiled before ls → find n ls ≡ Some l → Within before (low l.chain) (high l.chain) k
       → lookup before k (contents before ls) ≡ lookup before k (replay before l.chain)
-  lookup_leaf k n [] l t e w = absurd (none_some l e)
+  lookup_leaf k n [] l t e w = absurd (none-some l e)
   lookup_leaf k n (m ∷ ms) l t e w =
       let a = lookup_append before k (replay before m.chain) (contents before ms) in
       ⊎_elim (λ q. let z = nothing_right k m ms t (rw q.1 w.fits) in grind (arith, a, z, q.1))
@@ -217,7 +223,7 @@ module _ {K : Type 0} {before : K → K → Bool} (law : Lawful K before) where
       → Within before (low l.chain) (high l.chain) k
       → ((j : K) → lookup before j (replay before c) ≡ cond (same_key before j k) o (lookup before j (replay before l.chain)))
       → (j : K) → lookup before j (contents before (splice n (node n t c) [] ls)) ≡ cond (same_key before j k) o (lookup before j (contents before ls))
-  contents_change k o n t c [] l i e w d j = absurd (none_some l e)
+  contents_change k o n t c [] l i e w d j = absurd (none-some l e)
   contents_change k o n t c (m ∷ ms) l i e w d j =
       let a = lookup_append before j (replay before m.chain) (contents before ms) in
       ⊎_elim
@@ -237,7 +243,7 @@ module _ {K : Type 0} (before : K → K → Bool) where
   -- new leaves with the same items leave the whole as it is
   pub contents_same : (n t : ℕ) (c : Chain K) (more ls : List (Node K)) (l : Node K) → find n ls ≡ Some l → replay before c ++ contents before more ≡ replay before l.chain
       → contents before (splice n (node n t c) more ls) ≡ contents before ls
-  contents_same n t c more [] l e d = absurd (none_some l e)
+  contents_same n t c more [] l e d = absurd (none-some l e)
   contents_same n t c more (m ∷ ms) l e d =
       ⊎_elim
       (λ q. rw q.0 (ap (λ (z : List (Item K)). replay before c ++ z) (contents_append more ms) ∙ sym (append_assoc (replay before c) (contents before more) (contents before ms))
@@ -254,10 +260,10 @@ module _ {K : Type 0} (before : K → K → Bool) where
     pub low_is : low leaf.chain ≡ Some h
 
   pub sibling : (ls : List (Node K)) (n : ℕ) (l : Node K) (h : K) → Tiled before ls → find n ls ≡ Some l → high l.chain ≡ Some h → Sibling ls l h
-  sibling [] n l h t e g = absurd (none_some l e)
+  sibling [] n l h t e g = absurd (none-some l e)
   sibling (m ∷ []) n l h t e g =
-      ⊎_elim (λ q. let z = t.0.follows in absurd (none_some h (sym z.0 ∙ ap (λ (y : Node K). high y.chain) q.1 ∙ g)))
-      (λ q. absurd (none_some l q.1)) (find_cases n m [] l e)
+      ⊎_elim (λ q. let z = t.0.follows in absurd (none-some h (sym z.0 ∙ ap (λ (y : Node K). high y.chain) q.1 ∙ g)))
+      (λ q. absurd (none-some l q.1)) (find_cases n m [] l e)
   sibling (m ∷ o ∷ os) n l h t e g =
       ⊎_elim
       (λ q. let f = t.0.follows in record {
@@ -271,14 +277,14 @@ module _ {K : Type 0} (before : K → K → Bool) where
       (find_cases n m (o ∷ os) l e)
 
   pub found_tile : (ls : List (Node K)) (n : ℕ) (l : Node K) → Tiled before ls → find n ls ≡ Some l → Sound before l.chain × Wide before (low l.chain) (high l.chain)
-  found_tile [] n l t e = absurd (none_some l e)
+  found_tile [] n l t e = absurd (none-some l e)
   found_tile (m ∷ ms) n l t e = ⊎_elim (λ q. rw (← q.1) (t.0.sound, t.0.wide)) (λ q. found_tile ms n l t.1 q.1) (find_cases n m ms l e)
 
   -- ---- a new chain in slot n, with more leaves right of it, in place of l
 
   module _ (n t : ℕ) (c : Chain K) (more : List (Node K)) (l : Node K) (low_is : low c ≡ low l.chain) where
     follows_splice : (b : Chain K) (ms : List (Node K)) → find n ms ≡ Some l → Follows before b ms → Follows before b (splice n (node n t c) more ms)
-    follows_splice b [] e g = absurd (none_some l e)
+    follows_splice b [] e g = absurd (none-some l e)
     follows_splice b (o ∷ os) e g =
         ⊎_elim
         (λ q. rw q.0 (g.0, g.1, g.2 ∙ ap Some (sym (eqb-true n o.slot q.0)), low_is ∙ ap (λ (z : Node K). low z.chain) (sym q.1) ∙ g.3))
@@ -287,7 +293,7 @@ module _ {K : Type 0} (before : K → K → Bool) where
     -- if they tile where l did, all tile
     pub tiled_splice : ((ms : List (Node K)) → l.slot ≡ n → Absent more (l ∷ ms) → Tiled before (l ∷ ms) → Tiled before (node n t c ∷ (more ++ ms)))
         → (ls : List (Node K)) → find n ls ≡ Some l → Absent more ls → Tiled before ls → Tiled before (splice n (node n t c) more ls)
-    tiled_splice fit [] e a i = absurd (none_some l e)
+    tiled_splice fit [] e a i = absurd (none-some l e)
     tiled_splice fit (m ∷ ms) e a i =
         ⊎_elim
         (λ q. rw q.0 (fit ms (found_slot n (m ∷ ms) l e) (subst (λ (z : Node K). Absent more (z ∷ ms)) q.1 a) (subst (λ (z : Node K). Tiled before (z ∷ ms)) q.1 i)))
@@ -303,7 +309,7 @@ module _ {K : Type 0} (before : K → K → Bool) where
         (find_cases n m ms l e)
 
     pub ground_splice : (first : ℕ) (ls : List (Node K)) → find n ls ≡ Some l → Ground before first ls → Ground before first (splice n (node n t c) more ls)
-    ground_splice first [] e g = absurd (none_some l e)
+    ground_splice first [] e g = absurd (none-some l e)
     ground_splice first (m ∷ ms) e g =
         ⊎_elim (λ q. rw q.0 (low_is ∙ ap (λ (z : Node K). low z.chain) (sym q.1) ∙ g.0, eqb-true n m.slot q.0 ∙ g.1)) (λ q. rw q.0 g) (find_cases n m ms l e)
 
@@ -323,13 +329,13 @@ module _ {K : Type 0} (before : K → K → Bool) where
 
   -- the side links lead one way only
   pub along_same : (ls : List (Node K)) (n : ℕ) (xs ys : List (Item K)) → Along before ls n xs → Along before ls n ys → xs ≡ ys
-  along_same ls n xs ys (last x e r) (last y f q) = ap (λ (z : Node K). replay before z.chain) (some_injective x y (sym e ∙ f))
+  along_same ls n xs ys (last x e r) (last y f q) = ap (λ (z : Node K). replay before z.chain) (same_Some x y (sym e ∙ f))
   along_same ls n xs ys (last x e r) (then_right y o f q b) =
-      absurd (none_some o (sym r ∙ ap (λ (z : Node K). right z.chain) (some_injective x y (sym e ∙ f)) ∙ q))
+      absurd (none-some o (sym r ∙ ap (λ (z : Node K). right z.chain) (same_Some x y (sym e ∙ f)) ∙ q))
   along_same ls n xs ys (then_right x o e r a) (last y f q) =
-      absurd (none_some o (sym q ∙ ap (λ (z : Node K). right z.chain) (some_injective y x (sym f ∙ e)) ∙ r))
+      absurd (none-some o (sym q ∙ ap (λ (z : Node K). right z.chain) (same_Some y x (sym f ∙ e)) ∙ r))
   along_same ls n xs ys (then_right {ys = us} x o e r a) (then_right {ys = vs} y p f q b) =
-      let z = some_injective x y (sym e ∙ f) in
-      let i : o ≡ p = some_injective o p (sym r ∙ ap (λ (l : Node K). right l.chain) z ∙ q) in
+      let z = same_Some x y (sym e ∙ f) in
+      let i : o ≡ p = same_Some o p (sym r ∙ ap (λ (l : Node K). right l.chain) z ∙ q) in
       let j = along_same ls o us vs a (subst (λ (m : ℕ). Along before ls m vs) (sym i) b) in
       ap (λ (l : Node K). replay before l.chain ++ us) z ∙ ap (λ (l : List (Item K)). replay before y.chain ++ l) j

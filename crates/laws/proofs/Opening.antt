@@ -1,19 +1,21 @@
 -- each operation of a history was opened by the call that it names
-use Rattle.std.proofs.Common.{◌≡◌, ℕ, suc, ◌<◌, ◌≤◌, Bool, true, false, cond, eqb, ltb, ◌⊎◌, List, [], ◌∷◌, Some, None, Option, sym, refl, ap, ◌∙◌, inl, inr, ⊎_elim, arith}
+use Rattle.std.proofs.Common.{◌≡◌, ℕ, suc, ◌<◌, ◌≤◌, Bool, true, false, cond, eqb, ltb, ◌⊎◌, List, [], ◌∷◌, Some, None, Option, Ok, Err, Result, sym, refl, ap, ◌∙◌, inl, inr, ⊎_elim, arith}
 use Rattle.std.specs.List.{AllByRecursion}
 use Rattle.std.proofs.ByRecursion.{All-append}
+use Rattle.std.proofs.lemmas.Option.{none-some, same_Some}
 use Rattle.std.proofs.lemmas.Bool.{cases_Bool, both_ways, cond_both, eqb-true, eqb-false, eq-eqb, cases_lt}
 use Rattle.std.proofs.lemmas.Bool.Decides.{nat_tests}
 use Rattle.bwtree.specs.declared.answer.Answer.{Answer}
 use Rattle.bwtree.specs.declared.answer.Answer.TheVariants as answers
 use Rattle.bwtree.specs.declared.answer.Ending.{Ending}
+use Rattle.bwtree.specs.declared.answer.Refusal.{Refusal}
 use Rattle.bwtree.specs.declared.seat.Request.{Request}
-use Rattle.laws.specs.Worlds.{Phase, Idle, RootRead, RootWalk, LeafRead, LeafWalk, Build, RootBuild, Swap, RootSwap, SplitSwap, PostRead, PostSwap, Seat, World, Granted, sit, Call, Begin, Step, Tell}
+use Rattle.laws.specs.Worlds.{Phase, Idle, RootRead, PostRead, Seat, World, Granted, sit, Call, Begin, Step, Tell}
 use Rattle.laws.specs.Acts.{Act, Reads, Fails, Goes, Ends, Replaces, Divides, Roots, Refuses, act}
-use Rattle.laws.specs.Calls.{Did, Opened, ReadLeaf, Installed, Failed, Otherwise, Event, Turn, Made, perform, begin, is_idle, seat_of, seated, taking, event, run}
+use Rattle.laws.specs.Calls.{Did, Opened, ReadLeaf, Installed, Otherwise, Event, Turn, Made, perform, begin, is_idle, seat_of, seated, taking, event, run}
 use Rattle.laws.specs.Histories.{Ended, changes, keeps, settled, comes, coming, begun, read_at, swapped_at, moment_at, moments, At, Opens}
 use Rattle.laws.specs.Maps.{Reply}
-use Rattle.laws.proofs.Items.{never, none_some, some_injective}
+use Rattle.laws.proofs.Items.{never}
 use Rattle.laws.proofs.Settling.{reply_of, Settled, own_seat, set_settles, other_seat, settles}
 use Rattle.laws.proofs.Placing.{begun_other}
 use Rattle.laws.proofs.Timing.{at_later, Rest, rest_next}
@@ -21,24 +23,18 @@ use Rattle.laws.proofs.Timing.{at_later, Rest, rest_next}
 -- ---- what is still to come of an operation, after one call
 
 ended_now : (n : ℕ) (y : Ending) (x : Ended) (b : Bool) → cond b (Some (record { number = n; ending = y })) None ≡ Some x → x.number ≡ n
-ended_now n y x true e = ap (λ (z : Ended). z.number) (sym (some_injective (record { number = n; ending = y }) x e))
-ended_now n y x false e = absurd (none_some x e)
+ended_now n y x true e = ap (λ (z : Ended). z.number) (sym (same_Some (record { number = n; ending = y }) x e))
+ended_now n y x false e = absurd (none-some x e)
 
-settled_next : (n : ℕ) (a : Answer) (later : Option Ended) (x : Ended) → settled n a later ≡ Some x → (x.number ≡ n) ⊎ (later ≡ Some x)
-settled_next n answers.Begun later x e = inr e
-settled_next n answers.Going later x e = inr e
-settled_next n (answers.Ended y) later x e = inl (ended_now n y x (keeps y.end) e)
-settled_next n (answers.Reported r) later x e = inr e
-settled_next n (answers.Refused r) later x e = inr e
+settled_next : (n : ℕ) (a : Result Answer Refusal) (later : Option Ended) (x : Ended) → settled n a later ≡ Some x → (x.number ≡ n) ⊎ (later ≡ Some x)
+settled_next n (Ok (answers.Ended y)) later x e = inl (ended_now n y x (keeps y.end) e)
+settled_next n _ later x e = inr e
 
-comes_next : (n : ℕ) (d : Did) (a : Answer) (later : Option Ended) (x : Ended) → comes n d a later ≡ Some x → (x.number ≡ n) ⊎ (later ≡ Some x)
-comes_next n Opened a later x e = settled_next n a later x e
-comes_next n ReadLeaf a later x e = absurd (none_some x e)
-comes_next n Installed a later x e = settled_next n a later x e
-comes_next n Failed a later x e = settled_next n a later x e
-comes_next n Otherwise a later x e = settled_next n a later x e
+comes_next : (n : ℕ) (d : Did) (a : Result Answer Refusal) (later : Option Ended) (x : Ended) → comes n d a later ≡ Some x → (x.number ≡ n) ⊎ (later ≡ Some x)
+comes_next n ReadLeaf a later x e = absurd (none-some x e)
+comes_next n _ a later x e = settled_next n a later x e
 
-either_next : (n : ℕ) (d : Did) (a : Answer) (later : Option Ended) (x : Ended) (b : Bool) → cond b (comes n d a later) later ≡ Some x → (x.number ≡ n) ⊎ (later ≡ Some x)
+either_next : (n : ℕ) (d : Did) (a : Result Answer Refusal) (later : Option Ended) (x : Ended) (b : Bool) → cond b (comes n d a later) later ≡ Some x → (x.number ≡ n) ⊎ (later ≡ Some x)
 either_next n d a later x true e = comes_next n d a later x e
 either_next n d a later x false e = inr e
 
@@ -47,7 +43,7 @@ module _ {K : Type 0} (before : K → K → Bool) (w : World K) (s : ℕ) where
 
   -- it opens an operation
   pub record Fresh (t : Turn K) : Type 0 where
-    pub begun : t.answer ≡ answers.Begun
+    pub begun : t.answer ≡ Ok answers.Begun
     pub unsettled : (y : Reply) → Settled before t.world s y → ⊥
 
   -- an operation that is open after it was open before, with the same request
@@ -61,7 +57,7 @@ module _ {K : Type 0} (before : K → K → Bool) (w : World K) (s : ℕ) where
   abbrev Turned : Turn K → Type 0
   Turned t = ((t.did ≡ Opened) × Fresh t) ⊎ Kept t
 
-  unchanged_kept : (d : Did) (a : Answer) → (d ≡ ReadLeaf → ⊥) → (d ≡ Installed → ⊥) → (d ≡ Opened → ⊥) → Kept (record { did = d; answer = a; world = w })
+  unchanged_kept : (d : Did) (a : Result Answer Refusal) → (d ≡ ReadLeaf → ⊥) → (d ≡ Installed → ⊥) → (d ≡ Opened → ⊥) → Kept (record { did = d; answer = a; world = w })
   unchanged_kept d a r i o = record { still = λ h. h; request = refl; reads = λ e. absurd (r e); installs = λ e. absurd (i e); closed = o }
 
   same_request : (p : Phase K) → (sit w.seats s (record { request = (w.seats s).request; phase = p }) s).request ≡ (w.seats s).request
@@ -76,22 +72,12 @@ module _ {K : Type 0} (before : K → K → Bool) (w : World K) (s : ℕ) where
   open_kept q (Replaces n c e v) = record { still = λ _. q; request = same_request Idle; reads = λ _. q; installs = λ _. q; closed = λ o. grind (arith, o) }
   open_kept q (Divides n c k target) = record { still = λ _. q; request = same_request (PostRead k target _ _); reads = λ _. q; installs = λ _. q; closed = λ o. grind (arith, o) }
   open_kept q (Roots c e d n) = record { still = λ _. q; request = same_request Idle; reads = λ _. q; installs = λ _. q; closed = λ o. grind (arith, o) }
-  open_kept q (Refuses x) = unchanged_kept Otherwise (answers.Refused x) (λ e. grind (arith, e)) (λ e. grind (arith, e)) (λ e. grind (arith, e))
+  open_kept q (Refuses x) = unchanged_kept Otherwise (Err x) (λ e. grind (arith, e)) (λ e. grind (arith, e)) (λ e. grind (arith, e))
 
   -- an idle seat's step is turned down
   idle_kept : (g : Granted) (r : Request K) (p : Phase K) → is_idle p ≡ true → Kept (perform before w s (act before w g r p))
   idle_kept g r Idle e = unchanged_kept Otherwise _ (λ o. grind (arith, o)) (λ o. grind (arith, o)) (λ o. grind (arith, o))
-  idle_kept g r RootRead e = never e
-  idle_kept g r (RootWalk a b) e = never e
-  idle_kept g r (LeafRead n) e = never e
-  idle_kept g r (LeafWalk x c) e = never e
-  idle_kept g r (Build x) e = never e
-  idle_kept g r (RootBuild x) e = never e
-  idle_kept g r (Swap x c) e = never e
-  idle_kept g r (RootSwap x) e = never e
-  idle_kept g r (SplitSwap x k n) e = never e
-  idle_kept g r (PostRead k n d z) e = never e
-  idle_kept g r (PostSwap x k n d z) e = never e
+  idle_kept g r _ e = never e
 
   step_kept : (g : Granted) → Kept (perform before w s (act before w g (w.seats s).request (w.seats s).phase))
   step_kept g =
@@ -120,7 +106,7 @@ module _ {K : Type 0} (before : K → K → Bool) where
   unopened (m ∷ cs) w n s x c j e (inr a) l q o =
       let t = taking before w m in
       let es = run before t.world cs in
-      ⊎_elim (λ z. let y : ⊥ = omega (arith, at_later es (suc n) j e a, l, z) in y) (λ z. unopened cs t.world (suc n) s x z j e a l q o)
+      ⊎_elim (λ z. omega (arith, at_later es (suc n) j e a, l, z)) (λ z. unopened cs t.world (suc n) s x z j e a l q o)
       (either_next n t.did t.answer (coming (suc n) s es) x (eqb (seat_of m.call) s) c)
   unopened (m ∷ cs) w n s x c j e (inl a) l q o = go (turned before w s m seat)
     where
@@ -146,10 +132,7 @@ module _ {K : Type 0} (before : K → K → Bool) where
 module _ {K : Type 0} where
   begun_kept : (s n : ℕ) (e : Event K) (begins : ℕ → ℕ) (d : Did) → (d ≡ Opened → ⊥) → begun n e d begins s ≡ begins s
   begun_kept s n e begins Opened h = absurd (h refl)
-  begun_kept s n e begins ReadLeaf h = refl
-  begun_kept s n e begins Installed h = refl
-  begun_kept s n e begins Failed h = refl
-  begun_kept s n e begins Otherwise h = refl
+  begun_kept s n e begins _ h = refl
 
   -- of the history h: call b opened an operation on seat s, and no call before n opened another
   pub record OpenedAt (h : List (Event K)) (n s b : ℕ) (r : Request K) : Type 0 where
@@ -166,7 +149,7 @@ module _ {K : Type 0} where
     where
       go : ((n ≡ j) × (v ≡ e)) ⊎ At (suc n) es j e → v ≡ e
       go (inl p) = p.1
-      go (inr b) = let z : ⊥ = omega (arith, at_later es (suc n) j e b, q) in absurd z
+      go (inr b) = absurd (omega (arith, at_later es (suc n) j e b, q))
 
   -- call n opens nothing on seat s
   opened_on : (h : List (Event K)) (n s b : ℕ) (q : Request K) (v : Event K) (es : List (Event K)) → Rest h n (v ∷ es) → (v.seat ≡ s → v.did ≡ Opened → ⊥)
@@ -214,7 +197,7 @@ module _ {K : Type 0} (before : K → K → Bool) (h : List (Event K)) where
             seat = q;
             request = ap (λ (a : ℕ). (t.world.seats a).request) q;
             opens = f.0;
-            since = λ j e a l u x d. let z : ⊥ = omega (arith, l, u) in z;
+            since = λ j e a l u x d. omega (arith, l, u);
           })
       own_open s q (inr k) i =
           rw (begun_kept s n v begins t.did k.closed, k.request)
@@ -249,21 +232,16 @@ module _ {K : Type 0} (before : K → K → Bool) (h : List (Event K)) where
           let k = kept_turn (λ c. grind (arith, c, d)) in
           (entry_opens x.number x.ending k (k.reads d) (λ j y a l s c. unopened before cs t.world (suc n) (seat_of m.call) x e j y a l s c), tt)
 
-      swapped_opens : t.did ≡ Installed → (a : Answer) → AllByRecursion (Opens h) (swapped_at n v begins a)
-      swapped_opens d answers.Begun = tt
-      swapped_opens d answers.Going = tt
-      swapped_opens d (answers.Ended y) =
+      swapped_opens : t.did ≡ Installed → (a : Result Answer Refusal) → AllByRecursion (Opens h) (swapped_at n v begins a)
+      swapped_opens d (Ok (answers.Ended y)) =
           let k = kept_turn (λ c. grind (arith, c, d)) in
-          cond_both (changes y.end) _ _ (AllByRecursion (Opens h)) (λ _. (entry_opens n y k (k.installs d) (λ j e a l s c. let z : ⊥ = omega (arith, at_later es (suc n) j e a, l) in z), tt)) (λ _. tt)
-      swapped_opens d (answers.Reported x) = tt
-      swapped_opens d (answers.Refused x) = tt
+          cond_both (changes y.end) _ _ (AllByRecursion (Opens h)) (λ _. (entry_opens n y k (k.installs d) (λ j e a l s c. omega (arith, at_later es (suc n) j e a, l)), tt)) (λ _. tt)
+      swapped_opens d _ = tt
 
       moment_opens : (d : Did) → t.did ≡ d → AllByRecursion (Opens h) (moment_at n v begins d es)
-      moment_opens Opened q = tt
       moment_opens ReadLeaf q = read_opens q (coming (suc n) (seat_of m.call) es) refl
       moment_opens Installed q = swapped_opens q t.answer
-      moment_opens Failed q = tt
-      moment_opens Otherwise q = tt
+      moment_opens _ q = tt
 
   rest_opens : (cs : List (Made K)) (w : World K) (n : ℕ) (begins : ℕ → ℕ) → Rest h n (run before w cs) → AllOpen w n begins → AllByRecursion (Opens h) (moments n begins (run before w cs))
   rest_opens [] w n begins r all = tt

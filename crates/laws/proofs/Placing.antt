@@ -1,13 +1,16 @@
 -- the operations in the order of their moments: the moments ascend and lie between begin and end, and the operations are
 -- those that ended, each once
-use Rattle.std.proofs.Common.{◌≡◌, ℕ, suc, ◌+◌, ◌<◌, ◌≤◌, Bool, true, false, cond, ◌||◌, eqb, ltb, List, [], ◌∷◌, ◌++◌, map, Some, None, Option, sym, refl, ap, ◌∙◌, subst, ⊎_elim, arith}
+use Rattle.std.proofs.Common.{◌≡◌, ℕ, suc, ◌+◌, ◌<◌, ◌≤◌, Bool, true, false, cond, ◌||◌, eqb, ltb, List, [], ◌∷◌, ◌++◌, map, Some, None, Option, Ok, Result, sym, refl, ap, ◌∙◌, subst, ⊎_elim, arith}
 use Rattle.std.specs.List.{AllByRecursion}
 use Rattle.std.proofs.ByRecursion.{All-append}
+use Rattle.std.proofs.lemmas.List.{map-append}
+use Rattle.std.proofs.lemmas.Option.{none-some, same_Some}
 use Rattle.std.proofs.lemmas.Bool.{cases_Bool, cond_both, eqb-true, eq-eqb}
 use Rattle.std.proofs.lemmas.Bool.Decides.{nat_tests}
 use Rattle.bwtree.specs.declared.answer.Answer.{Answer}
 use Rattle.bwtree.specs.declared.answer.Answer.TheVariants as answers
 use Rattle.bwtree.specs.declared.answer.Ending.{Ending}
+use Rattle.bwtree.specs.declared.answer.Refusal.{Refusal}
 use Rattle.bwtree.specs.declared.seat.Request.{Request}
 use Rattle.nodes.specs.declared.node.Kind.TheVariants as kinds
 use Rattle.laws.specs.Chains.{On, attributes_of}
@@ -15,41 +18,30 @@ use Rattle.laws.specs.Worlds.{Phase, Idle, RootRead, PostRead, Seat, World, Gran
 use Rattle.laws.specs.Acts.{Act, Reads, Fails, Goes, Ends, Replaces, Divides, Roots, Refuses, act}
 use Rattle.laws.specs.Calls.{Did, Opened, ReadLeaf, Installed, Failed, Otherwise, Turn, Made, Event, turn, perform, begin, is_idle, seat_of, seated, taking, event, run}
 use Rattle.laws.specs.Histories.{Ended, Operation, Placed, changes, keeps, settled, comes, coming, begun, operation, read_at, swapped_at, moment_at, moments, ended_at, endings, InOrder, Between, weigh}
-use Rattle.laws.proofs.Items.{none_some, some_injective}
 use Rattle.laws.proofs.Shapes.{Settles, Shaped, act_shaped}
 use Rattle.laws.proofs.Settling.{reply_of, of_seat, Settled, set_settles, own_seat, other_seat, settles}
 
 -- ---- an operation ends after its last leaf read
 
 ended_number : (n : ℕ) (e : Ending) (b : Bool) (x : Ended) → cond b (Some (record { number = n; ending = e })) None ≡ Some x → n ≤ x.number
-ended_number n e true x q = let z = some_injective (record { number = n; ending = e }) x q in rw (← z) (omega arith)
-ended_number n e false x q = absurd (none_some x q)
+ended_number n e true x q = let z = same_Some (record { number = n; ending = e }) x q in rw (← z) (omega arith)
+ended_number n e false x q = absurd (none-some x q)
 
-settled_number : (n : ℕ) (a : Answer) (later : Option Ended) (x : Ended) → (later ≡ Some x → n ≤ x.number) → settled n a later ≡ Some x → n ≤ x.number
-settled_number n answers.Begun later x h e = h e
-settled_number n answers.Going later x h e = h e
-settled_number n (answers.Ended y) later x h e = ended_number n y (keeps y.end) x e
-settled_number n (answers.Reported r) later x h e = h e
-settled_number n (answers.Refused r) later x h e = h e
+settled_number : (n : ℕ) (a : Result Answer Refusal) (later : Option Ended) (x : Ended) → (later ≡ Some x → n ≤ x.number) → settled n a later ≡ Some x → n ≤ x.number
+settled_number n (Ok (answers.Ended y)) later x h e = ended_number n y (keeps y.end) x e
+settled_number n _ later x h e = h e
 
-comes_number : (n : ℕ) (d : Did) (a : Answer) (later : Option Ended) (x : Ended) → (later ≡ Some x → n ≤ x.number) → comes n d a later ≡ Some x → n ≤ x.number
-comes_number n Opened a later x h e = settled_number n a later x h e
-comes_number n ReadLeaf a later x h e = absurd (none_some x e)
-comes_number n Installed a later x h e = settled_number n a later x h e
-comes_number n Failed a later x h e = settled_number n a later x h e
-comes_number n Otherwise a later x h e = settled_number n a later x h e
+comes_number : (n : ℕ) (d : Did) (a : Result Answer Refusal) (later : Option Ended) (x : Ended) → (later ≡ Some x → n ≤ x.number) → comes n d a later ≡ Some x → n ≤ x.number
+comes_number n ReadLeaf a later x h e = absurd (none-some x e)
+comes_number n _ a later x h e = settled_number n a later x h e
 
 idle_none : (o : Option Ended) → ((x : Ended) → o ≡ Some x → ⊥) → o ≡ None
 idle_none None h = refl
 idle_none (Some x) h = absurd (h x refl)
 
-pub map_append : {A B : Type 0} (f : A → B) (xs ys : List A) → map f (xs ++ ys) ≡ map f xs ++ map f ys
-map_append f [] ys = refl
-map_append f (x ∷ xs) ys = ap (λ r. f x ∷ r) (map_append f xs ys)
-
 module _ {K : Type 0} where
   coming_number : (es : List (Event K)) (n s : ℕ) (x : Ended) → coming n s es ≡ Some x → n ≤ x.number
-  coming_number [] n s x e = absurd (none_some x e)
+  coming_number [] n s x e = absurd (none-some x e)
   coming_number (v ∷ es) n s x e = go (λ q. omega (arith, coming_number es (suc n) s x q)) (eqb v.seat s) e
     where
       go : (coming (suc n) s es ≡ Some x → n ≤ x.number) → (b : Bool) → cond b (comes n v.did v.answer (coming (suc n) s es)) (coming (suc n) s es) ≡ Some x → n ≤ x.number
@@ -65,26 +57,18 @@ module _ {K : Type 0} where
   read_one n e begins None b h = tt
   read_one n e begins (Some x) b h = (refl, record { begins = b e.seat; ends = omega (arith, h x refl) }, refl)
 
-  swapped_one : (n : ℕ) (e : Event K) (begins : ℕ → ℕ) (a : Answer) → ((s : ℕ) → begins s < n) → One n (swapped_at n e begins a)
-  swapped_one n e begins answers.Begun b = tt
-  swapped_one n e begins answers.Going b = tt
-  swapped_one n e begins (answers.Ended x) b = cond_both (changes x.end) _ _ (One n) (λ _. (refl, record { begins = b e.seat; ends = omega arith }, refl)) (λ _. tt)
-  swapped_one n e begins (answers.Reported r) b = tt
-  swapped_one n e begins (answers.Refused r) b = tt
+  swapped_one : (n : ℕ) (e : Event K) (begins : ℕ → ℕ) (a : Result Answer Refusal) → ((s : ℕ) → begins s < n) → One n (swapped_at n e begins a)
+  swapped_one n e begins (Ok (answers.Ended x)) b = cond_both (changes x.end) _ _ (One n) (λ _. (refl, record { begins = b e.seat; ends = omega arith }, refl)) (λ _. tt)
+  swapped_one n e begins _ b = tt
 
   moment_one : (n : ℕ) (e : Event K) (begins : ℕ → ℕ) (d : Did) (es : List (Event K)) → ((s : ℕ) → begins s < n) → One n (moment_at n e begins d es)
-  moment_one n e begins Opened es b = tt
   moment_one n e begins ReadLeaf es b = read_one n e begins (coming (suc n) e.seat es) b (λ x q. coming_number es (suc n) e.seat x q)
   moment_one n e begins Installed es b = swapped_one n e begins e.answer b
-  moment_one n e begins Failed es b = tt
-  moment_one n e begins Otherwise es b = tt
+  moment_one n e begins _ es b = tt
 
   begun_before : (n : ℕ) (e : Event K) (d : Did) (begins : ℕ → ℕ) → ((s : ℕ) → begins s < n) → (s : ℕ) → begun n e d begins s < suc n
   begun_before n e Opened begins b s = cond_both (eqb s e.seat) n (begins s) (λ i. i < suc n) (λ _. omega arith) (λ _. omega (arith, b s))
-  begun_before n e ReadLeaf begins b s = omega (arith, b s)
-  begun_before n e Installed begins b s = omega (arith, b s)
-  begun_before n e Failed begins b s = omega (arith, b s)
-  begun_before n e Otherwise begins b s = omega (arith, b s)
+  begun_before n e _ begins b s = omega (arith, b s)
 
   order_one : (j n : ℕ) (xs ys : List (Placed K)) → j < n → One n xs → ((i : ℕ) → i < suc n → InOrder i ys) → InOrder j (xs ++ ys)
   order_one j n [] ys l o h = h j (omega (arith, l))
@@ -110,10 +94,7 @@ module _ {K : Type 0} where
 
   pub begun_other : (s n : ℕ) (e : Event K) (begins : ℕ → ℕ) (d : Did) → eqb s e.seat ≡ false → begun n e d begins s ≡ begins s
   begun_other s n e begins Opened q = rw q refl
-  begun_other s n e begins ReadLeaf q = refl
-  begun_other s n e begins Installed q = refl
-  begun_other s n e begins Failed q = refl
-  begun_other s n e begins Otherwise q = refl
+  begun_other s n e begins _ q = refl
 
   -- ---- each ended operation once
 
@@ -158,21 +139,15 @@ module _ {K : Type 0} where
         go (Some x) = rw q refl
     moment_other n e begins Installed es q = go e.answer
       where
-        go : (a : Answer) → weight (swapped_at n e begins a) ≡ 0
-        go answers.Begun = refl
-        go answers.Going = refl
-        go (answers.Ended x) = cond_both (changes x.end) _ _ (λ ps. weight ps ≡ 0) (λ _. rw q refl) (λ _. refl)
-        go (answers.Reported r) = refl
-        go (answers.Refused r) = refl
+        go : (a : Result Answer Refusal) → weight (swapped_at n e begins a) ≡ 0
+        go (Ok (answers.Ended x)) = cond_both (changes x.end) _ _ (λ ps. weight ps ≡ 0) (λ _. rw q refl) (λ _. refl)
+        go _ = refl
     moment_other n e begins Failed es q = refl
     moment_other n e begins Otherwise es q = refl
 
-    ended_other : (n : ℕ) (e : Event K) (begins : ℕ → ℕ) (a : Answer) → eqb e.seat s ≡ false → weigh s f (ended_at n e begins a) ≡ 0
-    ended_other n e begins answers.Begun q = refl
-    ended_other n e begins answers.Going q = refl
-    ended_other n e begins (answers.Ended x) q = cond_both (keeps x.end || changes x.end) _ _ (λ os. weigh s f os ≡ 0) (λ _. rw q refl) (λ _. refl)
-    ended_other n e begins (answers.Reported r) q = refl
-    ended_other n e begins (answers.Refused r) q = refl
+    ended_other : (n : ℕ) (e : Event K) (begins : ℕ → ℕ) (a : Result Answer Refusal) → eqb e.seat s ≡ false → weigh s f (ended_at n e begins a) ≡ 0
+    ended_other n e begins (Ok (answers.Ended x)) q = cond_both (keeps x.end || changes x.end) _ _ (λ os. weigh s f os ≡ 0) (λ _. rw q refl) (λ _. refl)
+    ended_other n e begins _ q = refl
 
     -- ---- the three ways in which a call of the seat itself ends or goes on
 
@@ -211,17 +186,17 @@ module _ {K : Type 0} (before : K → K → Bool) (s : ℕ) (f : Operation K →
       request_is : (v.seats s).request ≡ (w.seats s).request
       request_is = ap (λ (y : Seat K). y.request) q
 
-      quiet_end : changes x.end ≡ false → Balanced (turn Otherwise (answers.Ended x) v)
+      quiet_end : changes x.end ≡ false → Balanced (turn Otherwise (Ok (answers.Ended x)) v)
       quiet_end h l =
           omega (
             arith,
-            ended_weight s f n (of_seat s (turn Otherwise (answers.Ended x) v)) begins x (keeps x.end || changes x.end) refl,
+            ended_weight s f n (of_seat s (turn Otherwise (Ok (answers.Ended x)) v)) begins x (keeps x.end || changes x.end) refl,
             ended_here s f (w.seats s).request (v.seats s).request (begins s) (record { number = n; ending = x }) (keeps x.end) (changes x.end) later request_is h (at_rest l),
           )
 
-      swap_end : keeps x.end ≡ false → Balanced (turn Installed (answers.Ended x) v)
+      swap_end : keeps x.end ≡ false → Balanced (turn Installed (Ok (answers.Ended x)) v)
       swap_end h l =
-          let t = turn Installed (answers.Ended x) v in
+          let t = turn Installed (Ok (answers.Ended x)) v in
           omega (
             arith,
             swapped_weight s f n (of_seat s t) begins x (changes x.end) refl,
@@ -292,7 +267,7 @@ module _ {K : Type 0} (before : K → K → Bool) (s : ℕ) (f : Operation K →
     both l = ⊎_elim (λ q. own_both (eqb-true (seat_of m.call) s q) l) (λ q. other_both q) (cases_Bool (eqb (seat_of m.call) s))
 
   weight_append : (xs ys : List (Placed K)) → weight s f (xs ++ ys) ≡ weight s f xs + weight s f ys
-  weight_append xs ys = rw (map_append operation_of xs ys) (weigh_append s f (map operation_of xs) (map operation_of ys))
+  weight_append xs ys = rw (map-append operation_of xs ys) (weigh_append s f (map operation_of xs) (map operation_of ys))
 
   once_run : (ms : List (Made K)) (w : World K) (n : ℕ) (begins : ℕ → ℕ)
       → weight s f (moments n begins (run before w ms)) + pending s f (w.seats s).request (begins s) (coming n s (run before w ms)) ≡ weigh s f (endings n begins (run before w ms))

@@ -3,7 +3,7 @@ use Rattle.std.proofs.Common.{◌≡◌, ℕ, Bool, true, List}
 use Rattle.keys.specs.Order.{Lawful}
 use Rattle.nodes.specs.declared.node.Item.{Item}
 use Rattle.nodes.specs.Items.{ascends}
-use Rattle.nodes.proofs.Items.{ascending_from}
+use Rattle.nodes.proofs.ItemLists.{ascending_from}
 use Rattle.laws.specs.Calls.{Made, after}
 use Rattle.laws.specs.Theorem.{Part, all_items, start, LeavesFit, SlotsDiffer}
 use Rattle.laws.proofs.Running.{kept}

@@ -2,6 +2,7 @@
 use Rattle.std.proofs.Common.{◌≡◌, ℕ, zero, suc, ◌<◌, ◌≤◌, Bool, true, false, cond, List, [], ◌∷◌, ◌++◌, length, take, drop, Some, None, Option, sym, refl, ◌∙◌, subst, arith, length-drop, take-append-drop, length-take}
 use Rattle.std.specs.List.{slice_get, AllByRecursion}
 use Rattle.std.proofs.ByRecursion.{All-weaker, All-drop}
+use Rattle.std.proofs.lemmas.Option.{none-some}
 use Rattle.keys.specs.Order.{Lawful, same_key}
 use Rattle.keys.proofs.Laws.{same_equal, not_after_before}
 use Rattle.nodes.specs.declared.node.Item.{Item}
@@ -10,8 +11,8 @@ use Rattle.nodes.specs.declared.node.Kind.TheVariants as kinds
 use Rattle.nodes.specs.Items.{lookup, below}
 use Rattle.bwtree.specs.Deltas.{cut}
 use Rattle.laws.specs.Chains.{Chain, Base, On, attributes_of, changed, replay, consolidated, upper_from}
-use Rattle.nodes.proofs.Items.{Ascending, ascending_below, ascending_insert, ascending_remove}
-use Rattle.laws.proofs.Items.{none_some, From, all_insert, all_remove, all_below, lookup_insert_same, lookup_insert_other, length_insert, lookup_remove_same, lookup_remove_other, length_remove, lookup_below, all_nth, below_take, from_drop, ascending_drop, first_before, nth_place}
+use Rattle.nodes.proofs.ItemLists.{Ascending, ascending_below, ascending_insert, ascending_remove}
+use Rattle.laws.proofs.Items.{From, all_insert, all_remove, all_below, lookup_insert_same, lookup_insert_other, length_insert, lookup_remove_same, lookup_remove_other, length_remove, lookup_below, all_nth, below_take, from_drop, ascending_drop, first_before, nth_place}
 
 module _ {K : Type 0} where
   abbrev pub low : Chain K → Option K
@@ -110,8 +111,8 @@ module _ {K : Type 0} {before : K → K → Bool} (law : Lawful K before) where
   wide_place : (l h : Option K) (xs : List (Item K)) (n : ℕ) (x : Item K) → 0 < n → slice_get xs n ≡ Some x → Ascending before xs
       → AllByRecursion (λ (y : Item K). Within before l h y.key) xs → Wide before l (Some x.key)
   wide_place None h xs n x z e s a = tt
-  wide_place (Some l) h [] n x z e s a = absurd (none_some x e)
-  wide_place (Some l) h (y ∷ ys) zero x z e s a = let q : ⊥ = omega arith in absurd q
+  wide_place (Some l) h [] n x z e s a = absurd (none-some x e)
+  wide_place (Some l) h (y ∷ ys) zero x z e s a = absurd (omega arith)
   wide_place (Some l) h (y ∷ ys) (suc n) x z e s a = not_after_before law l y.key x.key a.0.past (first_before law y ys n x e s)
 
   module _ (n : ℕ) (k : K) (c : Chain K) (s : Sound before c) (p : CutAt before n k c) where

@@ -1,6 +1,8 @@
 -- over whole runs the answers are those of the plain map, and the leaves hold its pairs
-use Rattle.std.proofs.Common.{◌≡◌, ℕ, suc, Bool, true, false, cond, ltb, ◌⊎◌, List, [], ◌∷◌, ◌++◌, map, drop, Some, None, Option, sym, refl, ap, ◌∙◌, subst, inl, inr, append-nil, arith}
+use Rattle.std.proofs.Common.{◌≡◌, ℕ, suc, Bool, true, false, cond, ltb, ◌⊎◌, List, [], ◌∷◌, ◌++◌, map, drop, Some, None, Option, Ok, sym, refl, ap, ◌∙◌, subst, inl, inr, append-nil, arith}
 use Rattle.std.specs.List.{AllByRecursion}
+use Rattle.std.proofs.lemmas.List.{map-append}
+use Rattle.std.proofs.lemmas.Option.{none-some, same_Some}
 use Rattle.std.proofs.lemmas.Bool.{cond_both, eq-eqb}
 use Rattle.keys.specs.Order.{Lawful, same_key}
 use Rattle.keys.proofs.Laws.{same_equal}
@@ -13,13 +15,13 @@ use Rattle.bwtree.specs.declared.seat.Request.{Request}
 use Rattle.bwtree.specs.declared.seat.Request.TheVariants as requests
 use Rattle.bwtree.specs.Deltas.{cut}
 use Rattle.laws.specs.Chains.{Chain, On, attributes_of, replay, consolidated, upper}
-use Rattle.laws.specs.Worlds.{Node, Phase, Idle, RootRead, RootWalk, LeafRead, LeafWalk, Build, RootBuild, Swap, RootSwap, SplitSwap, PostRead, PostSwap, World, Granted, unchanged, find, Call, Begin, Step, Tell}
+use Rattle.laws.specs.Worlds.{Node, Phase, Idle, LeafWalk, World, Granted, unchanged, find, Call, Begin, Step, Tell}
 use Rattle.laws.specs.Acts.{Act, Reads, Fails, Goes, Ends, Replaces, Divides, Roots, Refuses, end_for, value_for, act}
 use Rattle.laws.specs.Calls.{ReadLeaf, Installed, Turn, Made, Event, turn, at, placed, divided, perform, begin, is_idle, seat_of, seated, taking, event, run, after}
 use Rattle.laws.specs.Histories.{Ended, changes, coming, begun, read_at, moment_at, moments}
 use Rattle.laws.specs.Maps.{Plain, Reply, Asked, reply, asked, held, says_of, then_of, next, put, Gives, fill}
 use Rattle.laws.specs.Theorem.{impossible}
-use Rattle.laws.proofs.Items.{none_some, some_injective, lookup_insert_same, lookup_insert_other, lookup_remove_same, lookup_remove_other}
+use Rattle.laws.proofs.Items.{lookup_insert_same, lookup_insert_other, lookup_remove_same, lookup_remove_other}
 use Rattle.laws.proofs.Replays.{low, high, size, Within, Sound, CutAt, walk, walked, ascending, cut_parts}
 use Rattle.laws.proofs.Leaves.{node, contents, lookup_leaf, contents_change, contents_same, found_tile}
 use Rattle.laws.proofs.Standing.{unchanged_chain, Caught, Makes, Stands, Invariant}
@@ -27,7 +29,6 @@ use Rattle.laws.proofs.Allowed.{Allowed, act_ok}
 use Rattle.laws.proofs.Shapes.{stale, quiet, Settles, Shaped, act_shaped}
 use Rattle.laws.proofs.Settling.{reply_of, of_seat, Settled, set_settles, settles}
 use Rattle.laws.proofs.Keeping.{call_kept}
-use Rattle.laws.proofs.Placing.{map_append}
 
 module _ {K : Type 0} (before : K → K → Bool) where
   -- the leaves hold the map's pairs
@@ -43,18 +44,18 @@ module _ {K : Type 0} (before : K → K → Bool) where
   quiet_says : (m : Plain K) (r : Request K) (o : Option ℕ) (y : Reply) → quiet r o ≡ Some y → (says_of r o ≡ Some y) × (then_of before m r o ≡ m)
   quiet_says m (requests.Lookup k) None y e = (e, refl)
   quiet_says m (requests.Lookup k) (Some v) y e = (e, refl)
-  quiet_says m (requests.Insert k v) None y e = absurd (none_some y e)
+  quiet_says m (requests.Insert k v) None y e = absurd (none-some y e)
   quiet_says m (requests.Insert k v) (Some u) y e = (e, refl)
   quiet_says m (requests.Delete k) None y e = (e, refl)
-  quiet_says m (requests.Delete k) (Some v) y e = absurd (none_some y e)
-  quiet_says m (requests.Consolidate k) o y e = absurd (none_some y e)
-  quiet_says m (requests.Split k) o y e = absurd (none_some y e)
-  quiet_says m requests.ConsolidateRoot o y e = absurd (none_some y e)
+  quiet_says m (requests.Delete k) (Some v) y e = absurd (none-some y e)
+  quiet_says m (requests.Consolidate k) o y e = absurd (none-some y e)
+  quiet_says m (requests.Split k) o y e = absurd (none-some y e)
+  quiet_says m requests.ConsolidateRoot o y e = absurd (none-some y e)
 
 module _ {K : Type 0} {before : K → K → Bool} (law : Lawful K before) (w : World K) (i : Invariant before w) (m : Plain K) (p : Pairs before m w) where
   on_time : (b : Bool) → ◌≡◌ {A = ℕ} (cond b 0 1) 0 → b ≡ true
   on_time true e = refl
-  on_time false e = let z : ⊥ = omega (arith, e) in absurd z
+  on_time false e = absurd (omega (arith, e))
 
   -- what a walk finds in a leaf that is as it was read is what the map holds
   walk_holds : (k : K) (x : Node K) (at : Chain K) → Caught before w x k → walk before k at ≡ walk before k x.chain → unchanged w.leaves x ≡ true → walk before k at ≡ m k
@@ -70,24 +71,12 @@ module _ {K : Type 0} {before : K → K → Bool} (law : Lawful K before) (w : W
   read_quiet (requests.Lookup k) x at y h u e = subst (λ (o : Option ℕ). quiet (requests.Lookup k) o ≡ Some y) (walk_holds k x at h.0 h.1 u) e
   read_quiet (requests.Insert k v) x at y h u e = subst (λ (o : Option ℕ). quiet (requests.Insert k v) o ≡ Some y) (walk_holds k x at h.0 h.1 u) e
   read_quiet (requests.Delete k) x at y h u e = subst (λ (o : Option ℕ). quiet (requests.Delete k) o ≡ Some y) (walk_holds k x at h.0 h.1 u) e
-  read_quiet (requests.Consolidate k) x at y h u e = absurd h
-  read_quiet (requests.Split k) x at y h u e = absurd h
-  read_quiet requests.ConsolidateRoot x at y h u e = absurd h
+  read_quiet _ x at y h u e = absurd h
 
   -- what a phase settles that was just read is the map's answer
   settles_quiet : (r : Request K) (q : Phase K) (y : Reply) → Stands before w r q → stale w q ≡ 0 → Settles before r q y → quiet r (held m r) ≡ Some y
-  settles_quiet r Idle y h z e = absurd e
-  settles_quiet r RootRead y h z e = absurd e
-  settles_quiet r (RootWalk a b) y h z e = absurd e
-  settles_quiet r (LeafRead n) y h z e = absurd e
   settles_quiet r (LeafWalk x at) y h z e = read_quiet r x at y h (on_time (unchanged w.leaves x) z) e
-  settles_quiet r (Build x) y h z e = absurd e
-  settles_quiet r (RootBuild x) y h z e = absurd e
-  settles_quiet r (Swap x c) y h z e = absurd e
-  settles_quiet r (RootSwap x) y h z e = absurd e
-  settles_quiet r (SplitSwap x k n) y h z e = absurd e
-  settles_quiet r (PostRead k n a b) y h z e = absurd e
-  settles_quiet r (PostSwap x k n a b) y h z e = absurd e
+  settles_quiet r _ y h z e = absurd e
 
   -- ---- a swap
 
@@ -141,11 +130,11 @@ module _ {K : Type 0} {before : K → K → Bool} (law : Lawful K before) (w : W
     swapped : (r : Request K) (c : Chain K) → Makes before r l.chain c → (e : End) → end_for c ≡ Some e → Swapped r n c e (value_for c)
     swapped (requests.Lookup k) c h e q = absurd h
     swapped (requests.Insert k v) c h e q =
-        let d = some_injective e ends.Stored (sym q ∙ ap end_for h.1) in rw h.1 (rw d (inl (inserted k v h.0 h.2)))
+        let d = same_Some e ends.Stored (sym q ∙ ap end_for h.1) in rw h.1 (rw d (inl (inserted k v h.0 h.2)))
     swapped (requests.Delete k) c h e q =
-        let d = some_injective e ends.Removed (sym q ∙ ap end_for h.2) in rw h.2 (rw d (inl (removed k h.1 h.0 h.3)))
+        let d = same_Some e ends.Removed (sym q ∙ ap end_for h.2) in rw h.2 (rw d (inl (removed k h.1 h.0 h.3)))
     swapped (requests.Consolidate k) c h e q =
-        let d = some_injective e ends.Consolidated (sym q ∙ ap end_for h) in
+        let d = same_Some e ends.Consolidated (sym q ∙ ap end_for h) in
         rw h (rw d (inr (refl, same_pairs (consolidated before l.chain) [] (append-nil (replay before l.chain)))))
     swapped (requests.Split k) c h e q = absurd h
     swapped requests.ConsolidateRoot c h e q = absurd h
@@ -173,17 +162,17 @@ module _ {K : Type 0} {before : K → K → Bool} (law : Lawful K before) (w : W
         record { gives = (z.0, rw z.1 g.gives); pairs = rw z.1 g.pairs }
 
     module _ (s : ℕ) where
-      read_goes : (q : Phase K) → Stands before w (w.seats s).request q → stale w q ≡ 0 → Claim s (turn ReadLeaf answers.Going (at w s q))
+      read_goes : (q : Phase K) → Stands before w (w.seats s).request q → stale w q ≡ 0 → Claim s (turn ReadLeaf (Ok answers.Going) (at w s q))
       read_goes q h z ih l = go (coming (suc n) s es) refl
         where
-          go : (o : Option Ended) → coming (suc n) s es ≡ o → Goes_as before m (map asked (read_at n (of_seat s (turn ReadLeaf answers.Going (at w s q))) begins o) ++ rest) v
+          go : (o : Option Ended) → coming (suc n) s es ≡ o → Goes_as before m (map asked (read_at n (of_seat s (turn ReadLeaf (Ok answers.Going) (at w s q))) begins o) ++ rest) v
           go None e = ih m p
           go (Some x) e =
               let y = set_settles before w.seats s (record { request = (w.seats s).request; phase = q }) (reply_of x) (l x e) in
               rw (eq-eqb s s refl) (quiet_goes (w.seats s).request (reply_of x) (settles_quiet (w.seats s).request q (reply_of x) h z y) (ih m p))
 
       replace_goes : (j : ℕ) (c : Chain K) (e : End) (u d z : ℕ) → Swapped (w.seats s).request j c e u
-          → Claim s (turn Installed (answers.Ended (record { end = e; value = u; depth = d; size = z })) (at (placed w j c []) s Idle))
+          → Claim s (turn Installed (Ok (answers.Ended (record { end = e; value = u; depth = d; size = z }))) (at (placed w j c []) s Idle))
       replace_goes j c e u d z (inl h) ih l =
           let g = ih (next before m (w.seats s).request) h.pairs in
           rw (h.changing, eq-eqb s s refl) (record { gives = (h.says, g.gives); pairs = g.pairs })
@@ -224,7 +213,7 @@ module _ {K : Type 0} {before : K → K → Bool} (law : Lawful K before) where
       let e = event before c t in
       let es = run before t.world cs in
       let more = moments (suc n) (begun n e t.did begins) es in
-      rw (map_append asked (moment_at n e begins t.did es) more)
+      rw (map-append asked (moment_at n e begins t.did es) more)
       (call_goes law w i m p n begins es (map asked more) (after before t.world cs) c
       (λ k q. goes cs t.world k (suc n) (begun n e t.did begins) (call_kept law w i c) q) (λ x q. settles before cs t.world (suc n) (seat_of c.call) x q))
 
@@ -235,14 +224,8 @@ module _ {K : Type 0} {before : K → K → Bool} (law : Lawful K before) where
   -- ---- no call meets an impossible number
 
   perform_possible : (w : World K) (s : ℕ) (r : Request K) (a : Act K) → Allowed before w r a → impossible (perform before w s a).answer ≡ false
-  perform_possible w s r (Reads p) h = refl
-  perform_possible w s r (Fails p) h = refl
-  perform_possible w s r (Goes p) h = refl
-  perform_possible w s r (Ends e v d n) h = refl
-  perform_possible w s r (Replaces n c e v) h = refl
-  perform_possible w s r (Divides n c k target) h = refl
-  perform_possible w s r (Roots c e d n) h = refl
   perform_possible w s r (Refuses x) h = rw h refl
+  perform_possible w s r _ h = refl
 
   begin_possible : (w : World K) (s : ℕ) (r : Request K) (b : Bool) → impossible (begin w s r b).answer ≡ false
   begin_possible w s r true = refl

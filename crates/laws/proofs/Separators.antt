@@ -2,6 +2,7 @@
 use Rattle.std.proofs.Common.{◌≡◌, ℕ, ◌<◌, ◌≤◌, Bool, true, false, ◌⊎◌, List, [], ◌∷◌, length, Some, None, Option, sym, refl, ap, ◌∙◌, subst, inl, inr, ⊎_elim, arith}
 use Rattle.std.specs.List.{AllByRecursion}
 use Rattle.std.proofs.ByRecursion.{All-weaker}
+use Rattle.std.proofs.lemmas.Option.{none-some, same_Some}
 use Rattle.std.proofs.lemmas.Bool.{both_ways, cond_both}
 use Rattle.keys.specs.Order.{Lawful, same_key}
 use Rattle.keys.proofs.Laws.{asymmetric, same_equal}
@@ -11,8 +12,8 @@ use Rattle.nodes.specs.declared.node.Kind.TheVariants as kinds
 use Rattle.nodes.specs.Items.{lookup}
 use Rattle.laws.specs.Chains.{Chain, Base, On, changed, replay}
 use Rattle.laws.specs.Worlds.{Node, find}
-use Rattle.nodes.proofs.Items.{Ascending, Over, ascending_insert, over_weaker}
-use Rattle.laws.proofs.Items.{none_some, all_insert, all_remove, all_below, length_insert, some_injective}
+use Rattle.nodes.proofs.ItemLists.{Ascending, Over, ascending_insert, over_weaker}
+use Rattle.laws.proofs.Items.{all_insert, all_remove, all_below, length_insert}
 use Rattle.laws.proofs.Replays.{low, high, size, Fits, Past, Wide}
 use Rattle.laws.proofs.Leaves.{find_cases, Tiled, fits_at, past_at, wide_at, past_first, Ground}
 
@@ -68,7 +69,7 @@ module _ {K : Type 0} {before : K → K → Bool} (law : Lawful K before) where
   -- no leaf's low key lies strictly between the bounds of a leaf
   none_between : (k : K) (n j : ℕ) (ls : List (Node K)) (l x : Node K) → Tiled before ls → find n ls ≡ Some l → find j ls ≡ Some x → Wide before (low l.chain) (Some k)
       → Fits before k (high l.chain) → low x.chain ≡ Some k → ⊥
-  none_between k n j [] l x t e f a b c = none_some l e
+  none_between k n j [] l x t e f a b c = none-some l e
   none_between k n j (m ∷ ms) l x t e f a b c =
       ⊎_elim (λ p. ⊎_elim (λ q. here_here p.1 q.1) (λ q. here_right p.1 ms t q.1) (find_cases j m ms x f))
       (λ p. ⊎_elim (λ q. left_here q.1 ms t p.1) (λ q. none_between k n j ms l x t.1 p.1 q.1 a b c) (find_cases j m ms x f))
@@ -83,7 +84,7 @@ module _ {K : Type 0} {before : K → K → Bool} (law : Lawful K before) where
           both_ways (before k k) itself (wide_at before (low l.chain) (Some k) (Some k) (Some k) d refl a)
 
       here_right : m ≡ l → (os : List (Node K)) → Tiled before (m ∷ os) → find j os ≡ Some x → ⊥
-      here_right p [] i h = none_some x h
+      here_right p [] i h = none-some x h
       here_right p (o ∷ os) i h =
           let g = i.0.follows in
           let u : Past before (low o.chain) k = past_first law k j o os x i.1 h (past_at before k (Some k) (low x.chain) (sym c) itself) in
@@ -95,7 +96,7 @@ module _ {K : Type 0} {before : K → K → Bool} (law : Lawful K before) where
       low_past (Some y) w = asymmetric law y k w
 
       left_here : m ≡ x → (os : List (Node K)) → Tiled before (m ∷ os) → find n os ≡ Some l → ⊥
-      left_here q [] i h = none_some l h
+      left_here q [] i h = none-some l h
       left_here q (o ∷ os) i h =
           let g = i.0.follows in
           let u : Past before (low o.chain) k = past_first law k n o os l i.1 h (low_past (low l.chain) a) in
@@ -129,11 +130,11 @@ module _ {K : Type 0} {before : K → K → Bool} (law : Lawful K before) where
 
   -- low keys ascend along the leaves
   lows_ascend : (o : Node K) (os : List (Node K)) (h k : K) → Tiled before (o ∷ os) → low o.chain ≡ Some h → LowIn os k → before h k ≡ true
-  lows_ascend o [] h k t e (n, l) = absurd (none_some l.leaf l.is)
+  lows_ascend o [] h k t e (n, l) = absurd (none-some l.leaf l.is)
   lows_ascend o (p ∷ ps) h k t e l =
       let g = t.0.follows in
       let w = wide_at before (low o.chain) (Some h) (high o.chain) (Some g.0) e g.1 t.0.wide in
-      ⊎_elim (λ q. subst (λ (j : K). before h j ≡ true) (some_injective g.0 k (sym g.3 ∙ q)) w)
+      ⊎_elim (λ q. subst (λ (j : K). before h j ≡ true) (same_Some g.0 k (sym g.3 ∙ q)) w)
       (λ q. law.transitive h g.0 k w (lows_ascend p ps g.0 k t.1 g.3 q)) (low_cases p ps k l)
 
   -- keys after the first leaf's low key belong to the others
@@ -141,17 +142,17 @@ module _ {K : Type 0} {before : K → K → Bool} (law : Lawful K before) where
       → AllByRecursion (λ (x : Item K). LowIn (o ∷ os) x.key) xs → AllByRecursion (λ (x : Item K). LowIn os x.key) xs
   lows_tail o os h [] e v a = tt
   lows_tail o os h (x ∷ xs) e v a = (
-    ⊎_elim (λ q. absurd (both_ways (before h h) (law.irreflexive h) (subst (λ (j : K). before h j ≡ true) (sym (some_injective h x.key (sym e ∙ q))) v.0))) (λ q. q) (low_cases o os x.key a.0),
+    ⊎_elim (λ q. absurd (both_ways (before h h) (law.irreflexive h) (subst (λ (j : K). before h j ≡ true) (sym (same_Some h x.key (sym e ∙ q))) v.0))) (λ q. q) (low_cases o os x.key a.0),
     lows_tail o os h xs e v.1 a.1,
   )
 
   lows_count : (m : Node K) (ms : List (Node K)) (xs : List (Item K)) → Tiled before (m ∷ ms) → Ascending before xs → AllByRecursion (λ (x : Item K). LowIn ms x.key) xs → length xs ≤ length ms
   lows_count m ms [] t s a = omega arith
-  lows_count m [] (x ∷ xs) t s a = absurd (none_some a.0.1.leaf a.0.1.is)
+  lows_count m [] (x ∷ xs) t s a = absurd (none-some a.0.1.leaf a.0.1.is)
   lows_count m (o ∷ os) (x ∷ xs) t s a =
       let g = t.0.follows in
       ⊎_elim
-      (λ q. let e = some_injective g.0 x.key (sym g.3 ∙ q) in
+      (λ q. let e = same_Some g.0 x.key (sym g.3 ∙ q) in
       omega (arith, lows_count o os xs t.1 s.1 (lows_tail o os g.0 xs g.3 (subst (λ (j : K). Over before j xs) (sym e) s.0) a.1)))
       (λ q. let b = lows_ascend o os g.0 x.key t.1 g.3 q in
       omega (arith, lows_count o os (x ∷ xs) t.1 s (q, lows_tail o os g.0 xs g.3 (over_weaker before law g.0 x.key xs b s.0) a.1)))
@@ -165,4 +166,4 @@ module _ {K : Type 0} {before : K → K → Bool} (law : Lawful K before) where
       others : (xs : List (Item K)) → AllByRecursion (λ (x : Item K). Leads before (l ∷ ms) x.key x.value) xs → AllByRecursion (λ (x : Item K). LowIn ms x.key) xs
       others [] b = tt
       others (x ∷ xs) b =
-          (⊎_elim (λ q. absurd (none_some x.key (sym g.0 ∙ q))) (λ q. q) (low_cases l ms x.key (x.value, b.0)), others xs b.1)
+          (⊎_elim (λ q. absurd (none-some x.key (sym g.0 ∙ q))) (λ q. q) (low_cases l ms x.key (x.value, b.0)), others xs b.1)

@@ -1,6 +1,7 @@
 -- a seat that will end with a map answer that changes nothing, before it reads a leaf again, walks a leaf whose chain
 -- gives that answer
 use Rattle.std.proofs.Common.{◌≡◌, ℕ, suc, Bool, true, false, cond, eqb, ltb, List, [], ◌∷◌, Some, None, Option, refl, subst, arith}
+use Rattle.std.proofs.lemmas.Option.{none-some, same_Some}
 use Rattle.std.proofs.lemmas.Bool.{cond_both, eqb-true, eq-eqb}
 use Rattle.std.proofs.lemmas.Bool.Decides.{nat_tests}
 use Rattle.bwtree.specs.declared.answer.End.{End}
@@ -10,7 +11,6 @@ use Rattle.laws.specs.Acts.{Act, Reads, Fails, Goes, Ends, Replaces, Divides, Ro
 use Rattle.laws.specs.Calls.{Turn, Made, Event, perform, begin, is_idle, seat_of, seated, taking, run}
 use Rattle.laws.specs.Histories.{Ended, keeps, comes, coming}
 use Rattle.laws.specs.Maps.{Reply, reply}
-use Rattle.laws.proofs.Items.{none_some, some_injective}
 use Rattle.laws.proofs.Shapes.{Settles, Shaped, act_shaped}
 
 -- the answer and value of an ending
@@ -39,12 +39,12 @@ module _ {K : Type 0} (before : K → K → Bool) where
   ending_settles r p n d z e v x h q = go (keeps e) refl q
     where
       go : (b : Bool) → keeps e ≡ b → cond b (Some (record { number = n; ending = record { end = e; value = v; depth = d; size = z } })) None ≡ Some x → Settles before r p (reply_of x)
-      go true k o = subst (λ (y : Ended). Settles before r p (reply_of y)) (some_injective (record { number = n; ending = record { end = e; value = v; depth = d; size = z } }) x o) (h k)
-      go false k o = absurd (none_some x o)
+      go true k o = subst (λ (y : Ended). Settles before r p (reply_of y)) (same_Some (record { number = n; ending = record { end = e; value = v; depth = d; size = z } }) x o) (h k)
+      go false k o = absurd (none-some x o)
 
   not_ending : (n d z : ℕ) (e : End) (v : ℕ) (x : Ended) → keeps e ≡ false
       → cond (keeps e) (Some (record { number = n; ending = record { end = e; value = v; depth = d; size = z } })) None ≡ Some x → ⊥
-  not_ending n d z e v x k q = none_some x (rw k at q)
+  not_ending n d z e v x k q = none-some x (rw k at q)
 
   module _ (w : World K) (s n : ℕ) (later : Option Ended) (x : Ended) where
     -- what the calls after a turn settle, the seat has settled before it
@@ -52,7 +52,7 @@ module _ {K : Type 0} (before : K → K → Bool) where
     Passes t = comes n t.did t.answer later ≡ Some x → (later ≡ Some x → Settled t.world s (reply_of x)) → Settled w s (reply_of x)
 
     perform_passes : (a : Act K) → Shaped before w (w.seats s).request (w.seats s).phase a → Passes (perform before w s a)
-    perform_passes (Reads p) h e ih = absurd (none_some x e)
+    perform_passes (Reads p) h e ih = absurd (none-some x e)
     perform_passes (Fails p) h e ih = absurd (h.2 (reply_of x) (set_settles w.seats s (record { request = (w.seats s).request; phase = p }) (reply_of x) (ih e)))
     perform_passes (Goes p) h e ih = h.1 (reply_of x) (set_settles w.seats s (record { request = (w.seats s).request; phase = p }) (reply_of x) (ih e))
     perform_passes (Ends e v d z) h q ih = ending_settles (w.seats s).request (w.seats s).phase n d z e v x h.1 q
@@ -75,14 +75,8 @@ module _ {K : Type 0} (before : K → K → Bool) where
 
   -- a call of another seat leaves the seat as it is
   other_perform : (w : World K) (s t : ℕ) → eqb s t ≡ false → (a : Act K) → (perform before w t a).world.seats s ≡ w.seats s
-  other_perform w s t q (Reads p) = rw q
-  other_perform w s t q (Fails p) = rw q
-  other_perform w s t q (Goes p) = rw q
-  other_perform w s t q (Ends e v d n) = rw q
-  other_perform w s t q (Replaces n c e v) = rw q
-  other_perform w s t q (Divides n c k target) = rw q
-  other_perform w s t q (Roots c e d n) = rw q
   other_perform w s t q (Refuses x) = refl
+  other_perform w s t q _ = rw q
 
   other_begin : (w : World K) (s t : ℕ) → eqb s t ≡ false → (r : Request K) (b : Bool) → (begin w t r b).world.seats s ≡ w.seats s
   other_begin w s t q r true = rw q
@@ -98,7 +92,7 @@ module _ {K : Type 0} (before : K → K → Bool) where
       cond_both (ltb (seat_of m.call) 4) _ _ (λ (t : Turn K). t.world.seats s ≡ w.seats s) (λ _. other_seated w s m.granted m.call (grind (arith, nat_tests))) (λ _. refl)
 
   pub settles : (ms : List (Made K)) (w : World K) (n s : ℕ) (x : Ended) → coming n s (run before w ms) ≡ Some x → Settled w s (reply_of x)
-  settles [] w n s x e = absurd (none_some x e)
+  settles [] w n s x e = absurd (none-some x e)
   settles (m ∷ ms) w n s x e = go (settles ms (taking before w m).world (suc n) s x) (eqb (seat_of m.call) s) refl e
     where
       t : Turn K

@@ -36,18 +36,14 @@ module _ {K : Type 0} where
 
   -- 1 where the seat has a snapshot for a swap, and its slot has changed since
   abbrev pub stale : World K → Phase K → ℕ
-  stale w Idle = 0
-  stale w RootRead = 0
-  stale w (RootWalk at best) = 0
-  stale w (LeafRead n) = 0
   stale w (LeafWalk x at) = off_leaf w x
   stale w (Build x) = off_leaf w x
   stale w (RootBuild x) = off_root w x
   stale w (Swap x c) = off_leaf w x
   stale w (RootSwap x) = off_root w x
   stale w (SplitSwap x k n) = off_leaf w x
-  stale w (PostRead k n depth size) = 0
   stale w (PostSwap x k n depth size) = off_root w x
+  stale w _ = 0
 
   -- the map answer that changes nothing, where this is the value beside the key
   abbrev pub quiet : Request K → Option ℕ → Option Reply
@@ -221,21 +217,16 @@ module _ {K : Type 0} (before : K → K → Bool) where
         (λ _. cond_both g.frame _ _ (Shaped w r (Build x)) (λ _. split_slot_lem r x (offered w g.slot)) (λ _. (refl, λ e. never e)))
 
     builds : (r : Request K) (x : Node K) → Shaped w r (Build x) (build before w g x r)
-    builds (requests.Lookup k) x = tt
-    builds (requests.Insert k v) x = tt
-    builds (requests.Delete k) x = tt
     builds (requests.Consolidate k) x = consolidates (requests.Consolidate k) x
     builds (requests.Split k) x = splits (requests.Split k) x
-    builds requests.ConsolidateRoot x = tt
+    builds _ x = tt
 
     -- ---- swaps
 
     replaced : (r : Request K) (p : Phase K) (n : ℕ) (c : Chain K) → Shaped w r p (replaces n c (end_for c))
-    replaced r p n (Base l h o xs) = refl
-    replaced r p n (On kinds.Insertion k v c) = refl
-    replaced r p n (On kinds.Deletion k v c) = refl
     replaced r p n (On kinds.Split k v c) = tt
     replaced r p n (On kinds.Separator k v c) = tt
+    replaced r p n _ = refl
 
     pub act_shaped : (r : Request K) (p : Phase K) → Shaped w r p (act before w g r p)
     act_shaped r Idle = tt

@@ -1,7 +1,6 @@
 -- the shape of the tree, as its contract states it, from what holds of the world
-use Rattle.std.proofs.Common.{◌≡◌, ℕ, Bool, true, false, cond, Some, None, Option, refl, subst, arith}
+use Rattle.std.proofs.Common.{◌≡◌, ℕ, Bool, true, false, cond, Some, None, Option, refl, subst}
 use Rattle.std.proofs.ByRecursion.{All-weaker}
-use Rattle.std.proofs.lemmas.Bool.{cases_Bool}
 use Rattle.keys.specs.Order.{Lawful, same_key}
 use Rattle.nodes.specs.declared.node.Item.{Item}
 use Rattle.nodes.specs.declared.node.Kind.TheVariants as kinds
@@ -11,7 +10,7 @@ use Rattle.laws.specs.Worlds.{Node, World, find}
 use Rattle.laws.specs.Trees.{from_low, InRange, Walks, decided, onward, LeafStands, Tree}
 use Rattle.laws.proofs.Items.{ascending_ascends}
 use Rattle.laws.proofs.Replays.{low, high, Fits, Past, Within, Sound, walk, ascending, bounded, sized, small, walked, cut_below, cut_parts}
-use Rattle.laws.proofs.Leaves.{found_tile}
+use Rattle.laws.proofs.Leaves.{found_tile, fits_of}
 use Rattle.laws.proofs.Separators.{Leads, leading_replay, root_ascending, root_sized, fewer_separators}
 use Rattle.laws.proofs.Standing.{Invariant}
 use Rattle.laws.proofs.Greatest.{root_leads}
@@ -24,10 +23,6 @@ module _ {K : Type 0} (before : K → K → Bool) where
   fits_test : (k : K) (o : Option K) → Fits before k o → beyond before k o ≡ false
   fits_test k None p = refl
   fits_test k (Some h) p = rw p refl
-
-  test_fits : (k : K) (o : Option K) → beyond before k o ≡ false → Fits before k o
-  test_fits k None e = tt
-  test_fits k (Some h) e = grind (arith, cases_Bool (before k h))
 
   -- a walk along a chain is decided as its walk says
   look_walks : (k : K) (c : Chain K) → Walks before k c (walk before k c)
@@ -53,7 +48,7 @@ module _ {K : Type 0} {before : K → K → Bool} (law : Lawful K before) where
         bounded = All-weaker (λ (x : Item K). Within before (low c) (high c) x.key) (λ (x : Item K). InRange before c x.key) (λ x p. record { low = past_test before x.key (low c) p.past; high = fits_test before x.key (high c) p.fits }) (replay before c) (bounded law c s);
         size = sized law c s;
         small = small law c s;
-        walks = λ k r. subst (λ (o : Option ℕ). Walks before k c o) (walked law k c s (test_fits before k (high c) r.high)) (look_walks before k c);
+        walks = λ k r. subst (λ (o : Option ℕ). Walks before k c o) (walked law k c s (fits_of before k (high c) r.high)) (look_walks before k c);
         cuts = λ n x z e. (cut_below law n x.key c s (record { some = z; item = x; there = e; key = refl }), cut_parts law n x.key c s (record { some = z; item = x; there = e; key = refl }));
       }
 

@@ -174,11 +174,11 @@ module _ {K : Type 0} (before : K → K → Bool) (w v : World K) (g : Grows w v
   snapshot_grows : (x : Node K) → Snapshot before w x → Snapshot before v x
   snapshot_grows x s =
       let z = g.leaf x.slot s.now s.is in
-      record { now = z.now; is = z.is; older = omega (arith, s.older, g.clock); kept = ⊎_elim (λ q. rw q s.kept) (λ q e. let y : ⊥ = omega (arith, s.older, q, e) in absurd y) z.either; sound = s.sound }
+      record { now = z.now; is = z.is; older = omega (arith, s.older, g.clock); kept = ⊎_elim (λ q. rw q s.kept) (λ q e. absurd (omega (arith, s.older, q, e))) z.either; sound = s.sound }
 
   root_grows : (x : Node K) → RootSnapshot before w x → RootSnapshot before v x
   root_grows x s =
-      record { older = omega (arith, s.older, g.clock); kept = ⊎_elim (λ q. rw q s.kept) (λ q e. let y : ⊥ = omega (arith, s.older, q, e) in absurd y) g.root; leading = leading_grows x.chain s.leading; sound = s.sound }
+      record { older = omega (arith, s.older, g.clock); kept = ⊎_elim (λ q. rw q s.kept) (λ q e. absurd (omega (arith, s.older, q, e))) g.root; leading = leading_grows x.chain s.leading; sound = s.sound }
 
   caught_grows : (x : Node K) (k : K) → Caught before w x k → Caught before v x k
   caught_grows x k s = record { snapshot = snapshot_grows x s.snapshot; within = s.within }

@@ -9,7 +9,7 @@ use Rattle.nodes.specs.declared.node.Item.{Item}
 use Rattle.laws.specs.Chains.{Chain, Base}
 use Rattle.laws.specs.Worlds.{Node, find}
 use Rattle.laws.specs.Theorem.{Part, all_items, leaves_of, separator, start, LeavesFit, SlotsDiffer}
-use Rattle.nodes.proofs.Items.{Ascending, Over, Under}
+use Rattle.nodes.proofs.ItemLists.{Ascending, Over, Under}
 use Rattle.laws.proofs.Items.{never}
 use Rattle.laws.proofs.Replays.{high, right, Fits, Past, Within, Wide}
 use Rattle.laws.proofs.Leaves.{find_skip, contents, Follows, Tiled, Ground}

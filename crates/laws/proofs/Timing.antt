@@ -1,32 +1,24 @@
 -- the moments of a history are the calls that they should be
-use Rattle.std.proofs.Common.{◌≡◌, ℕ, suc, ◌≤◌, Bool, true, false, cond, eqb, List, [], ◌∷◌, Some, None, Option, refl, ap, ◌∙◌, subst, inl, inr, arith}
+use Rattle.std.proofs.Common.{◌≡◌, ℕ, suc, ◌≤◌, Bool, true, false, cond, eqb, List, [], ◌∷◌, Some, None, Option, Ok, Result, refl, ap, ◌∙◌, subst, inl, inr, arith}
 use Rattle.std.specs.List.{AllByRecursion}
 use Rattle.std.proofs.ByRecursion.{All-append}
+use Rattle.std.proofs.lemmas.Option.{none-some, same_Some}
 use Rattle.std.proofs.lemmas.Bool.{both_ways, cond_both, eqb-true, eqb-false}
 use Rattle.bwtree.specs.declared.answer.Answer.{Answer}
 use Rattle.bwtree.specs.declared.answer.Answer.TheVariants as answers
 use Rattle.bwtree.specs.declared.answer.End.{End}
 use Rattle.bwtree.specs.declared.answer.End.TheVariants as ends
 use Rattle.bwtree.specs.declared.answer.Ending.{Ending}
-use Rattle.laws.specs.Calls.{Did, Opened, ReadLeaf, Installed, Failed, Otherwise, Event}
+use Rattle.bwtree.specs.declared.answer.Refusal.{Refusal}
+use Rattle.laws.specs.Calls.{Did, ReadLeaf, Installed, Event}
 use Rattle.laws.specs.Histories.{Ended, changes, keeps, settled, comes, coming, begun, read_at, swapped_at, moment_at, moments, At, Timed}
-use Rattle.laws.proofs.Items.{never, none_some, some_injective}
+use Rattle.laws.proofs.Items.{never}
 
 -- a map answer that changes nothing is none that changes the map
 keeps_or_changes : (e : End) → keeps e ≡ true → changes e ≡ false
-keeps_or_changes ends.Found k = refl
-keeps_or_changes ends.Missing k = refl
-keeps_or_changes ends.Present k = refl
 keeps_or_changes ends.Stored k = never k
 keeps_or_changes ends.Removed k = never k
-keeps_or_changes ends.Consolidated k = refl
-keeps_or_changes ends.Tidy k = refl
-keeps_or_changes ends.Split k = refl
-keeps_or_changes ends.Small k = refl
-keeps_or_changes ends.LeafFull k = refl
-keeps_or_changes ends.TooFewRecords k = refl
-keeps_or_changes ends.NoFrame k = refl
-keeps_or_changes ends.NoSlot k = refl
+keeps_or_changes _ k = refl
 
 module _ {K : Type 0} where
   pub at_later : (es : List (Event K)) (n j : ℕ) (e : Event K) → At n es j e → n ≤ j
@@ -39,7 +31,7 @@ module _ {K : Type 0} where
     pub call : Event K
     pub is : At n es x.number call
     pub seat : call.seat ≡ s
-    pub answers : call.answer ≡ answers.Ended x.ending
+    pub answers : call.answer ≡ Ok (answers.Ended x.ending)
     pub keeping : keeps x.ending.end ≡ true
     pub unread : (j : ℕ) (e : Event K) → At n es j e → j ≤ x.number → e.seat ≡ s → e.did ≡ ReadLeaf → ⊥
 
@@ -51,33 +43,27 @@ module _ {K : Type 0} where
         unread j e (inl q) l t d = h (ap (λ (y : Event K). y.seat) q.1 ∙ t) (ap (λ (y : Event K). y.did) q.1 ∙ d)
         unread j e (inr a) l t d = i.unread j e a l t d
 
-    here : (y : Ending) → v.seat ≡ s → (v.did ≡ ReadLeaf → ⊥) → v.answer ≡ answers.Ended y → keeps y.end ≡ true → Inner n (v ∷ es) s (record { number = n; ending = y })
+    here : (y : Ending) → v.seat ≡ s → (v.did ≡ ReadLeaf → ⊥) → v.answer ≡ Ok (answers.Ended y) → keeps y.end ≡ true → Inner n (v ∷ es) s (record { number = n; ending = y })
     here y q h a k = record { call = v; is = inl (refl, refl); seat = q; answers = a; keeping = k; unread = unread }
       where
         unread : (j : ℕ) (e : Event K) → At n (v ∷ es) j e → j ≤ n → e.seat ≡ s → e.did ≡ ReadLeaf → ⊥
         unread j e (inl o) l t d = h (ap (λ (z : Event K). z.did) o.1 ∙ d)
-        unread j e (inr b) l t d = let z : ⊥ = omega (arith, at_later es (suc n) j e b, l) in z
+        unread j e (inr b) l t d = omega (arith, at_later es (suc n) j e b, l)
 
-    ending_inner : (y : Ending) (x : Ended) (b : Bool) → keeps y.end ≡ b → v.seat ≡ s → (v.did ≡ ReadLeaf → ⊥) → v.answer ≡ answers.Ended y
+    ending_inner : (y : Ending) (x : Ended) (b : Bool) → keeps y.end ≡ b → v.seat ≡ s → (v.did ≡ ReadLeaf → ⊥) → v.answer ≡ Ok (answers.Ended y)
         → cond b (Some (record { number = n; ending = y })) None ≡ Some x → Inner n (v ∷ es) s x
-    ending_inner y x true k q h a e = subst (λ (z : Ended). Inner n (v ∷ es) s z) (some_injective (record { number = n; ending = y }) x e) (here y q h a k)
-    ending_inner y x false k q h a e = absurd (none_some x e)
+    ending_inner y x true k q h a e = subst (λ (z : Ended). Inner n (v ∷ es) s z) (same_Some (record { number = n; ending = y }) x e) (here y q h a k)
+    ending_inner y x false k q h a e = absurd (none-some x e)
 
-    settled_inner : (x : Ended) → (coming (suc n) s es ≡ Some x → Inner (suc n) es s x) → v.seat ≡ s → (v.did ≡ ReadLeaf → ⊥) → (a : Answer) → v.answer ≡ a
+    settled_inner : (x : Ended) → (coming (suc n) s es ≡ Some x → Inner (suc n) es s x) → v.seat ≡ s → (v.did ≡ ReadLeaf → ⊥) → (a : Result Answer Refusal) → v.answer ≡ a
         → settled n a (coming (suc n) s es) ≡ Some x → Inner n (v ∷ es) s x
-    settled_inner x ih q h answers.Begun a e = further x (λ _. h) (ih e)
-    settled_inner x ih q h answers.Going a e = further x (λ _. h) (ih e)
-    settled_inner x ih q h (answers.Ended y) a e = ending_inner y x (keeps y.end) refl q h a e
-    settled_inner x ih q h (answers.Reported r) a e = further x (λ _. h) (ih e)
-    settled_inner x ih q h (answers.Refused r) a e = further x (λ _. h) (ih e)
+    settled_inner x ih q h (Ok (answers.Ended y)) a e = ending_inner y x (keeps y.end) refl q h a e
+    settled_inner x ih q h _ a e = further x (λ _. h) (ih e)
 
     comes_inner : (x : Ended) → (coming (suc n) s es ≡ Some x → Inner (suc n) es s x) → v.seat ≡ s → (d : Did) → v.did ≡ d
         → comes n d v.answer (coming (suc n) s es) ≡ Some x → Inner n (v ∷ es) s x
-    comes_inner x ih q Opened d e = settled_inner x ih q (λ o. grind (arith, o, d)) v.answer refl e
-    comes_inner x ih q ReadLeaf d e = absurd (none_some x e)
-    comes_inner x ih q Installed d e = settled_inner x ih q (λ o. grind (arith, o, d)) v.answer refl e
-    comes_inner x ih q Failed d e = settled_inner x ih q (λ o. grind (arith, o, d)) v.answer refl e
-    comes_inner x ih q Otherwise d e = settled_inner x ih q (λ o. grind (arith, o, d)) v.answer refl e
+    comes_inner x ih q ReadLeaf d e = absurd (none-some x e)
+    comes_inner x ih q _ d e = settled_inner x ih q (λ o. grind (arith, o, d)) v.answer refl e
 
     either_inner : (x : Ended) → (coming (suc n) s es ≡ Some x → Inner (suc n) es s x) → (b : Bool) → eqb v.seat s ≡ b
         → cond b (comes n v.did v.answer (coming (suc n) s es)) (coming (suc n) s es) ≡ Some x → Inner n (v ∷ es) s x
@@ -85,7 +71,7 @@ module _ {K : Type 0} where
     either_inner x ih false q e = further x (λ t d. eqb-false v.seat s q t) (ih e)
 
   coming_inner : (es : List (Event K)) (n s : ℕ) (x : Ended) → coming n s es ≡ Some x → Inner n es s x
-  coming_inner [] n s x e = absurd (none_some x e)
+  coming_inner [] n s x e = absurd (none-some x e)
   coming_inner (v ∷ es) n s x e = either_inner n s v es x (coming_inner es (suc n) s x) (eqb v.seat s) refl e
 
   module _ (h : List (Event K)) where
@@ -98,7 +84,7 @@ module _ {K : Type 0} where
     rest_next n v es r = record { inside = λ j e a. r.inside j e (inr a); whole = λ j e a l. past j e l (r.whole j e a (omega (arith, l))) }
       where
         past : (j : ℕ) (e : Event K) → suc n ≤ j → At n (v ∷ es) j e → At (suc n) es j e
-        past j e l (inl q) = let z : ⊥ = omega (arith, l, q.0) in absurd z
+        past j e l (inl q) = absurd (omega (arith, l, q.0))
         past j e l (inr a) = a
 
     module _ (n : ℕ) (v : Event K) (es : List (Event K)) (begins : ℕ → ℕ) (r : Rest n (v ∷ es)) where
@@ -124,21 +110,16 @@ module _ {K : Type 0} where
             tt,
           )
 
-      swapped_timed : (a : Answer) → v.answer ≡ a → AllByRecursion (Timed h) (swapped_at n v begins a)
-      swapped_timed answers.Begun q = tt
-      swapped_timed answers.Going q = tt
-      swapped_timed (answers.Ended y) q =
+      swapped_timed : (a : Result Answer Refusal) → v.answer ≡ a → AllByRecursion (Timed h) (swapped_at n v begins a)
+      swapped_timed (Ok (answers.Ended y)) q =
           cond_both (changes y.end) _ _ (AllByRecursion (Timed h))
           (λ k. (record { call = v; is = r.inside n v (inl (refl, refl)); seat = refl; answers = q; at_end = λ _. refl; at_read = λ c. absurd (both_ways (changes y.end) c k) }, tt)) (λ _. tt)
-      swapped_timed (answers.Reported x) q = tt
-      swapped_timed (answers.Refused x) q = tt
+      swapped_timed _ q = tt
 
       moment_timed : (d : Did) → v.did ≡ d → AllByRecursion (Timed h) (moment_at n v begins d es)
-      moment_timed Opened q = tt
       moment_timed ReadLeaf q = read_timed q (coming (suc n) v.seat es) refl
       moment_timed Installed q = swapped_timed v.answer refl
-      moment_timed Failed q = tt
-      moment_timed Otherwise q = tt
+      moment_timed _ q = tt
 
     rest_timed : (es : List (Event K)) (n : ℕ) (begins : ℕ → ℕ) → Rest n es → AllByRecursion (Timed h) (moments n begins es)
     rest_timed [] n begins r = tt

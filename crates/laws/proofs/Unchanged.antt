@@ -1,5 +1,6 @@
 -- a call that does not answer stored or removed leaves every item where it was
 use Rattle.std.proofs.Common.{◌≡◌, ℕ, Bool, true, false, ltb, List, [], ◌∷◌, ◌++◌, drop, Some, sym, refl, ap, ◌∙◌, subst, append-nil}
+use Rattle.std.proofs.lemmas.Option.{same_Some}
 use Rattle.std.proofs.lemmas.Bool.{cond_both}
 use Rattle.keys.specs.Order.{Lawful}
 use Rattle.bwtree.specs.declared.answer.End.{End}
@@ -14,7 +15,7 @@ use Rattle.laws.specs.Acts.{Act, Reads, Fails, Goes, Ends, Replaces, Divides, Ro
 use Rattle.laws.specs.Calls.{Made, Turn, begin, divided, is_idle, perform, placed, seat_of, seated, taking}
 use Rattle.laws.specs.Histories.{changes}
 use Rattle.laws.specs.Theorem.{changing}
-use Rattle.laws.proofs.Items.{never, some_injective}
+use Rattle.laws.proofs.Items.{never}
 use Rattle.laws.proofs.Replays.{size, CutAt, cut_parts}
 use Rattle.laws.proofs.Leaves.{node, contents, contents_same, found_tile}
 use Rattle.laws.proofs.Standing.{Makes, Invariant}
@@ -31,12 +32,10 @@ module _ {K : Type 0} {before : K → K → Bool} (law : Lawful K before) (w : W
     same c more d = contents_same before n w.clock c more w.leaves l is d
 
     swapped : (r : Request K) (c : Chain K) → Makes before r l.chain c → (e : End) → end_for c ≡ Some e → changes e ≡ false → Same (placed w n c [])
-    swapped (requests.Lookup k) c h e q z = absurd h
-    swapped (requests.Insert k v) c h e q z = let d = some_injective e ends.Stored (sym q ∙ ap end_for h.1) in never (sym z ∙ ap changes d)
-    swapped (requests.Delete k) c h e q z = let d = some_injective e ends.Removed (sym q ∙ ap end_for h.2) in never (sym z ∙ ap changes d)
+    swapped (requests.Insert k v) c h e q z = let d = same_Some e ends.Stored (sym q ∙ ap end_for h.1) in never (sym z ∙ ap changes d)
+    swapped (requests.Delete k) c h e q z = let d = same_Some e ends.Removed (sym q ∙ ap end_for h.2) in never (sym z ∙ ap changes d)
     swapped (requests.Consolidate k) c h e q z = rw h (same (consolidated before l.chain) [] (append-nil (replay before l.chain)))
-    swapped (requests.Split k) c h e q z = absurd h
-    swapped requests.ConsolidateRoot c h e q z = absurd h
+    swapped _ c h e q z = absurd h
 
     divides : (k : K) (target : ℕ) → CutAt before (cut (size l.chain)) k l.chain → Same (divided before w n l.chain k target)
     divides k target a =

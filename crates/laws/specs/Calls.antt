@@ -1,5 +1,5 @@
 -- calls and runs: what a call answers, what it leaves, and what it did
-use Rattle.std.specs.Prelude.{ℕ, suc, Bool, true, false, cond, List, [], ◌∷◌, nat_lt}
+use Rattle.std.specs.Prelude.{ℕ, suc, Bool, true, false, cond, List, [], ◌∷◌, nat_lt, Ok, Err, Result}
 use Rattle.nodes.specs.declared.node.Kind.TheVariants as kinds
 use Rattle.bwtree.specs.declared.answer.Answer.{Answer}
 use Rattle.bwtree.specs.declared.answer.Answer.TheVariants as answers
@@ -20,26 +20,26 @@ pub record Event (K : Type 0) : Type 0 where
   pub seat : ℕ
   pub request : Request K
   pub did : Did
-  pub answer : Answer
+  pub answer : Result Answer Refusal
 
 -- what a call did and answered, and the world after it
 pub record Turn (K : Type 0) : Type 0 where
   pub did : Did
-  pub answer : Answer
+  pub answer : Result Answer Refusal
   pub world : World K
 
 -- an operation ends
-abbrev pub ended : End → ℕ → ℕ → ℕ → Answer
-ended e v d n = answers.Ended (record { end = e; value = v; depth = d; size = n })
+abbrev pub ended : End → ℕ → ℕ → ℕ → Result Answer Refusal
+ended e v d n = Ok (answers.Ended (record { end = e; value = v; depth = d; size = n }))
 
 module _ {K : Type 0} where
   -- a turn of these parts
-  abbrev pub turn : Did → Answer → World K → Turn K
+  abbrev pub turn : Did → Result Answer Refusal → World K → Turn K
   turn d a w = record { did = d; answer = a; world = w }
 
   -- a call that is turned down leaves the world as it was
   abbrev pub refused : World K → Refusal → Turn K
-  refused w r = turn Otherwise (answers.Refused r) w
+  refused w r = turn Otherwise (Err r) w
 
   -- the operation on a seat is at a phase
   abbrev pub at : World K → ℕ → Phase K → World K
@@ -78,7 +78,7 @@ module _ {K : Type 0} where
 
   -- a new operation, if the seat is idle
   abbrev pub begin : World K → ℕ → Request K → Bool → Turn K
-  begin w s r true = turn Opened answers.Begun (opened w s r)
+  begin w s r true = turn Opened (Ok answers.Begun) (opened w s r)
   begin w s r false = refused w refusals.SeatOpen
 
   -- the seat of a call
@@ -95,14 +95,14 @@ module _ {K : Type 0} (before : K → K → Bool) where
 
   -- what a step does to the world, and answers
   abbrev pub perform : World K → ℕ → Act K → Turn K
-  perform w s (Reads p) = turn ReadLeaf answers.Going (at w s p)
-  perform w s (Fails p) = turn Failed answers.Going (at w s p)
-  perform w s (Goes p) = turn Otherwise answers.Going (at w s p)
+  perform w s (Reads p) = turn ReadLeaf (Ok answers.Going) (at w s p)
+  perform w s (Fails p) = turn Failed (Ok answers.Going) (at w s p)
+  perform w s (Goes p) = turn Otherwise (Ok answers.Going) (at w s p)
   perform w s (Ends e v d n) = turn Otherwise (ended e v d n) (at w s Idle)
   perform w s (Replaces n c e v) = turn Installed (ended e v (attributes_of c).depth (attributes_of c).size) (at (placed w n c []) s Idle)
   perform w s (Divides n c k target) =
       let split = attributes_of (On kinds.Split k target c) in
-      turn Installed answers.Going (at (divided w n c k target) s (PostRead k target split.depth split.size))
+      turn Installed (Ok answers.Going) (at (divided w n c k target) s (PostRead k target split.depth split.size))
   perform w s (Roots c e d n) = turn Installed (ended e 0 d n) (at (rooted w c) s Idle)
   perform w s (Refuses r) = refused w r
 
@@ -110,7 +110,7 @@ module _ {K : Type 0} (before : K → K → Bool) where
   abbrev pub seated : World K → Granted → Call K → Turn K
   seated w g (Begin s r) = begin w s r (is_idle (w.seats s).phase)
   seated w g (Step s) = perform w s (act before w g (w.seats s).request (w.seats s).phase)
-  seated w g (Tell s) = turn Otherwise (answers.Reported g.report) w
+  seated w g (Tell s) = turn Otherwise (Ok (answers.Reported g.report)) w
 
   -- a call: only seats 0 to 3 exist
   abbrev pub call : World K → Granted → Call K → Turn K

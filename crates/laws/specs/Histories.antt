@@ -1,10 +1,11 @@
 -- the operations of a history: when each began, had its moment and ended
-use Rattle.std.specs.Prelude.{◌≡◌, ℕ, suc, ◌+◌, ◌<◌, ◌≤◌, Bool, true, false, cond, ◌||◌, ◌⊎◌, List, [], ◌∷◌, ◌++◌, Some, None, Option, ◌==◌, ◌≢◌}
+use Rattle.std.specs.Prelude.{◌≡◌, ℕ, suc, ◌+◌, ◌<◌, ◌≤◌, Bool, true, false, cond, ◌||◌, ◌⊎◌, List, [], ◌∷◌, ◌++◌, Some, None, Option, Ok, Result, ◌==◌, ◌≢◌}
 use Rattle.bwtree.specs.declared.answer.Answer.{Answer}
 use Rattle.bwtree.specs.declared.answer.Answer.TheVariants as answers
 use Rattle.bwtree.specs.declared.answer.End.{End}
 use Rattle.bwtree.specs.declared.answer.End.TheVariants as ends
 use Rattle.bwtree.specs.declared.answer.Ending.{Ending}
+use Rattle.bwtree.specs.declared.answer.Refusal.{Refusal}
 use Rattle.bwtree.specs.declared.seat.Request.{Request}
 use Rattle.laws.specs.Calls.{Did, Opened, ReadLeaf, Installed, Failed, Otherwise, Event}
 
@@ -59,15 +60,12 @@ pub record Ended : Type 0 where
   pub ending : Ending
 
 -- call n answers this: the operation ends there with a map answer that changes nothing, or otherwise, or it goes on
-abbrev pub settled : ℕ → Answer → Option Ended → Option Ended
-settled n answers.Begun later = later
-settled n answers.Going later = later
-settled n (answers.Ended e) later = cond (keeps e.end) (Some (record { number = n; ending = e })) None
-settled n (answers.Reported r) later = later
-settled n (answers.Refused r) later = later
+abbrev pub settled : ℕ → Result Answer Refusal → Option Ended → Option Ended
+settled n (Ok (answers.Ended e)) later = cond (keeps e.end) (Some (record { number = n; ending = e })) None
+settled n _ later = later
 
 -- what call n comes to for an operation that has read its leaf: another leaf read undoes that
-abbrev pub comes : ℕ → Did → Answer → Option Ended → Option Ended
+abbrev pub comes : ℕ → Did → Result Answer Refusal → Option Ended → Option Ended
 comes n Opened a later = settled n a later
 comes n ReadLeaf a later = None
 comes n Installed a later = settled n a later
@@ -115,12 +113,9 @@ module _ {K : Type 0} where
   read_at n e begins (Some x) = record { moment = n; operation = operation e.seat e.request begins x.number x.ending } ∷ []
 
   -- the operation that call n, a swap, ended with a change of the map
-  abbrev pub swapped_at : ℕ → Event K → (ℕ → ℕ) → Answer → List (Placed K)
-  swapped_at n e begins answers.Begun = []
-  swapped_at n e begins answers.Going = []
-  swapped_at n e begins (answers.Ended x) = cond (changes x.end) (record { moment = n; operation = operation e.seat e.request begins n x } ∷ []) []
-  swapped_at n e begins (answers.Reported r) = []
-  swapped_at n e begins (answers.Refused r) = []
+  abbrev pub swapped_at : ℕ → Event K → (ℕ → ℕ) → Result Answer Refusal → List (Placed K)
+  swapped_at n e begins (Ok (answers.Ended x)) = cond (changes x.end) (record { moment = n; operation = operation e.seat e.request begins n x } ∷ []) []
+  swapped_at n e begins _ = []
 
   -- the operation whose moment is call n, followed by the calls es
   abbrev pub moment_at : ℕ → Event K → (ℕ → ℕ) → Did → List (Event K) → List (Placed K)
@@ -136,12 +131,9 @@ module _ {K : Type 0} where
   moments n begins (e ∷ es) = moment_at n e begins e.did es ++ moments (suc n) (begun n e e.did begins) es
 
   -- the operation that call n ended with a map answer
-  abbrev pub ended_at : ℕ → Event K → (ℕ → ℕ) → Answer → List (Operation K)
-  ended_at n e begins answers.Begun = []
-  ended_at n e begins answers.Going = []
-  ended_at n e begins (answers.Ended x) = cond (keeps x.end || changes x.end) (operation e.seat e.request begins n x ∷ []) []
-  ended_at n e begins (answers.Reported r) = []
-  ended_at n e begins (answers.Refused r) = []
+  abbrev pub ended_at : ℕ → Event K → (ℕ → ℕ) → Result Answer Refusal → List (Operation K)
+  ended_at n e begins (Ok (answers.Ended x)) = cond (keeps x.end || changes x.end) (operation e.seat e.request begins n x ∷ []) []
+  ended_at n e begins _ = []
 
   -- the operations that ended with a map answer, in the order of their ends
   abbrev pub endings : ℕ → (ℕ → ℕ) → List (Event K) → List (Operation K)
@@ -183,7 +175,7 @@ module _ {K : Type 0} where
     pub call : Event K
     pub is : At 1 h p.operation.end call
     pub seat : call.seat ≡ p.operation.seat
-    pub answers : call.answer ≡ answers.Ended p.operation.ending
+    pub answers : call.answer ≡ Ok (answers.Ended p.operation.ending)
     pub at_end : changes p.operation.ending.end ≡ true → p.moment ≡ p.operation.end
     pub at_read : changes p.operation.ending.end ≡ false → LastRead h p.operation.seat p.moment p.operation.end
 

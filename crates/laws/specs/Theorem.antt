@@ -1,10 +1,11 @@
 -- the theorem: an index behaves as a plain map
-use Rattle.std.specs.Prelude.{◌≡◌, ℕ, ◌+◌, ◌≤◌, Bool, true, false, List, [], ◌∷◌, ◌++◌, map, length, Some, None, Option, ◌≢◌}
+use Rattle.std.specs.Prelude.{◌≡◌, ℕ, ◌+◌, ◌≤◌, Bool, true, false, List, [], ◌∷◌, ◌++◌, map, length, Some, None, Option, Ok, Err, Result, ◌≢◌}
 use Rattle.std.specs.List.{AllByRecursion}
 use Rattle.nodes.specs.declared.node.Item.{Item}
 use Rattle.nodes.specs.Items.{lookup, ascends}
 use Rattle.bwtree.specs.declared.answer.Answer.{Answer}
 use Rattle.bwtree.specs.declared.answer.Answer.TheVariants as answers
+use Rattle.bwtree.specs.declared.answer.Refusal.{Refusal}
 use Rattle.bwtree.specs.declared.answer.Refusal.TheVariants as refusals
 use Rattle.bwtree.specs.declared.seat.Request.TheVariants as requests
 use Rattle.laws.specs.Chains.{Base, attributes_of, replay}
@@ -14,24 +15,14 @@ use Rattle.laws.specs.Histories.{Operation, Placed, changes, operations, ended_o
 use Rattle.laws.specs.Maps.{Plain, asked, Gives, fill, Holds}
 
 -- an answer that only memory which is not an index's own can give
-abbrev pub impossible : Answer → Bool
-impossible answers.Begun = false
-impossible answers.Going = false
-impossible (answers.Ended e) = false
-impossible (answers.Reported r) = false
-impossible (answers.Refused refusals.NoSuchSeat) = false
-impossible (answers.Refused refusals.SeatOpen) = false
-impossible (answers.Refused refusals.SeatIdle) = false
-impossible (answers.Refused refusals.WrongSizes) = false
-impossible (answers.Refused refusals.Impossible) = true
+abbrev pub impossible : Result Answer Refusal → Bool
+impossible (Err refusals.Impossible) = true
+impossible _ = false
 
 -- an answer that changes the map
-abbrev pub changing : Answer → Bool
-changing answers.Begun = false
-changing answers.Going = false
-changing (answers.Ended e) = changes e.end
-changing (answers.Reported r) = false
-changing (answers.Refused r) = false
+abbrev pub changing : Result Answer Refusal → Bool
+changing (Ok (answers.Ended e)) = changes e.end
+changing _ = false
 
 -- ---- the start: items in leaves
 

@@ -6,7 +6,7 @@ use Rattle.std.specs.List.{slice_get, AllByRecursion}
 use Rattle.nodes.specs.declared.node.Item.{Item}
 use Rattle.nodes.specs.Items.{lookup}
 use Rattle.nodes.specs.Merge.{receded}
-use Rattle.nodes.proofs.Items.{Ascending, Descending}
+use Rattle.nodes.proofs.ItemLists.{Ascending, Descending}
 use Rattle.nodes.proofs.Merges.{rest_of, top_of}
 use Rattle.nodes.proofs.Ranges.{last_among}
 
@@ -39,7 +39,7 @@ module _ {K : Type 0} where
   -- the whole list from the back
   nth_none : (xs : List (Item K)) (i : ℕ) → i < length xs → slice_get xs i ≡ None → ⊥
   nth_none [] i h e = omega arith
-  nth_none (x ∷ xs) zero h e = let z : ◌≡◌ {A = ℕ} 0 1 = cc in omega arith
+  nth_none (x ∷ xs) zero h e = absurd cc
   nth_none (x ∷ xs) (suc i) h e = nth_none xs i (omega arith) e
 
   opened_snoc : (o : Option (Item K)) (y : Item K) (s t : List (Item K)) → (o ≡ None → ⊥) → s ≡ t ++ (y ∷ []) → opened o s ≡ opened o t ++ (y ∷ [])

@@ -1,24 +1,23 @@
 -- what filling the places of a target makes of a build
 use Rattle.std.proofs.Common.{◌≡◌, ℕ, suc, ◌+◌, ◌-◌, ◌<◌, ◌≤◌, Bool, true, false, cond, not, ◌&&◌, ◌||◌, eqb, ltb, leb, ◌⊎◌, List, [], ◌∷◌, map, length, drop, set, Some, None, Option, sym, refl, ap, ◌∙◌, subst, inl, inr, arith}
+use Rattle.std.proofs.lemmas.Option.{none-some, same_Some}
 use Rattle.std.proofs.lemmas.List.{drop_all}
 use Rattle.std.proofs.lemmas.Bool.{and_parts, cases_Bool, cases_lt, cases_order, cond_both, cond-false, cond-true, eqb-false, eqb-true, leb-true, le-leb, lt-leb, lt-ltb, not-true, or_left, or_right}
 use Rattle.std.specs.List.{slice_get}
 use Rattle.nodes.specs.declared.build.Source.{Source}
-use Rattle.nodes.specs.declared.node.Attributes.{Attributes}
 use Rattle.nodes.specs.declared.node.Delta.{Delta}
 use Rattle.nodes.specs.declared.node.Frame.{Frame}
 use Rattle.nodes.specs.declared.node.Head.{Head}
-use Rattle.nodes.specs.declared.node.Head.TheVariants as heads
 use Rattle.nodes.specs.declared.node.Item.{Item}
 use Rattle.nodes.specs.declared.node.Level.{Level}
 use Rattle.nodes.specs.declared.node.Level.TheVariants as levels
 use Rattle.nodes.specs.declared.node.Record.{Record}
 use Rattle.nodes.specs.Build.{Arrays, built, carried_out, in_frame, Outcome, Promised, put_at, puts, replay_at, source_of}
-use Rattle.nodes.specs.Chains.{attributes_of, bind, deltas_from, frame_under, replay}
+use Rattle.nodes.specs.Chains.{bind, deltas_from, replay}
 use Rattle.nodes.specs.Frames.{in_arrays, item_at, items_from, place_of, start_of}
 use Rattle.nodes.specs.Items.{ascends}
 use Rattle.nodes.specs.Merge.{fillable, filled, filled_at, filled_root, last_of}
-use Rattle.nodes.proofs.Ranges.{items_length, items_open, none_some, Opened, some_same}
+use Rattle.nodes.proofs.Ranges.{items_length, items_open, Opened}
 use Rattle.nodes.proofs.Writes.{puts_set}
 
 module _ {K : Type 0} where
@@ -44,8 +43,8 @@ module _ {K : Type 0} where
   start_of_lem : (keys : List K) (values : List ℕ) (f p : ℕ) → Some p ≡ start_of keys values f → (p ≡ place_of f) × (in_arrays keys values f ≡ true)
   start_of_lem keys values f p e =
       elim (cases_Bool (in_arrays keys values f)) [
-        | inl h ↦ (some_same (e ∙ cond-true (in_arrays keys values f) (Some (place_of f)) None h), h)
-        | inr h ↦ absurd (none_some (sym (e ∙ ap (λ (b : Bool). cond b (Some (place_of f)) None) h)))
+        | inl h ↦ (same_Some _ _ (e ∙ cond-true (in_arrays keys values f) (Some (place_of f)) None h), h)
+        | inr h ↦ absurd (none-some _ (sym (e ∙ ap (λ (b : Bool). cond b (Some (place_of f)) None) h)))
       ]
 
 -- the last of a list, past the first ones
@@ -185,17 +184,17 @@ module _ {K : Type 0} (before : K → K → Bool) (chain : List (Delta K)) (keys
           → Promised (filled_at before level chain keys values s.start stop floor top (eqb first 0)) o → o ≡ record { arrays = in_frame keys values target (drop first ys); answer = true }
       tested levels.Leaf xs ys i r f p =
           elim (cases_Bool (ascends before xs)) [
-            | inl a ↦ let q : replay before xs chain ≡ ys = some_same (sym (cond-true (ascends before xs) _ _ a) ∙ r) in
+            | inl a ↦ let q : replay before xs chain ≡ ys = same_Some _ _ (sym (cond-true (ascends before xs) _ _ a) ∙ r) in
                 subst (λ (zs : List (Item K)). Fits zs → o ≡ record { arrays = in_frame keys values target (drop first zs); answer = true }) q (λ g. leaf xs i a g p) f
-            | inr a ↦ absurd (none_some (sym (cond-false (ascends before xs) _ _ a) ∙ r))
+            | inr a ↦ absurd (none-some _ (sym (cond-false (ascends before xs) _ _ a) ∙ r))
           ]
-      tested levels.Root [] ys i r f p = absurd (none_some r)
+      tested levels.Root [] ys i r f p = absurd (none-some _ r)
       tested levels.Root (x ∷ xs) ys i r f p =
           elim (cases_Bool (ascends before xs)) [
-            | inl a ↦ let q : x ∷ replay before xs chain ≡ ys = some_same (sym (cond-true (ascends before xs) _ _ a) ∙ r) in
+            | inl a ↦ let q : x ∷ replay before xs chain ≡ ys = same_Some _ _ (sym (cond-true (ascends before xs) _ _ a) ∙ r) in
                 subst (λ (zs : List (Item K)). Fits zs → o ≡ record { arrays = in_frame keys values target (drop first zs); answer = true }) q
                 (λ g. elim (cases_Bool (eqb first 0)) [ inl e ↦ whole x xs i a g e p | inr e ↦ upper x xs i a g e p ]) f
-            | inr a ↦ absurd (none_some (sym (cond-false (ascends before xs) _ _ a) ∙ r))
+            | inr a ↦ absurd (none-some _ (sym (cond-false (ascends before xs) _ _ a) ∙ r))
           ]
 
       replayed : (r : Option (List (Item K))) → ((ys : List (Item K)) → r ≡ Some ys → test ys ≡ true → o ≡ record { arrays = in_frame keys values target (drop first ys); answer = true })
@@ -217,17 +216,6 @@ module _ {K : Type 0} (before : K → K → Bool) (chain : List (Delta K)) (keys
           absurd (let z : true ≡ false = sym v.1 ∙ e in grind (arith, z)))
 
 module _ {K : Type 0} (records : List (Record K)) (frames : List (Frame K)) (keys : List K) (values : List ℕ) (head : Head) where
-  pub source_found : (a : Attributes K) (f : ℕ) (b : Attributes K) (p : ℕ) → Some a ≡ attributes_of records frames head → Some f ≡ frame_under a.depth records head
-      → Some b ≡ attributes_of records frames (heads.Frame f) → Some p ≡ start_of keys values f
-      → cond (leb b.size 64) (Some (record { frame = f; start = p; size = b.size; depth = a.depth; count = a.size })) None ≡ source_of records frames keys values head
-  source_found a f b p e g h k =
-      ap (λ (o : Option ℕ). bind o (λ p. cond (leb b.size 64) (Some (record { frame = f; start = p; size = b.size; depth = a.depth; count = a.size })) None)) k
-      ∙ ap (λ (o : Option (Attributes K)). bind o (λ b. bind (start_of keys values f) (λ p. cond (leb b.size 64) (Some (record { frame = f; start = p; size = b.size; depth = a.depth; count = a.size })) None))) h
-      ∙ ap (λ (o : Option ℕ). bind o (λ f. bind (attributes_of records frames (heads.Frame f)) (λ b. bind (start_of keys values f) (λ p.
-      cond (leb b.size 64) (Some (record { frame = f; start = p; size = b.size; depth = a.depth; count = a.size })) None)))) g
-      ∙ ap (λ (o : Option (Attributes K)). bind o (λ a. bind (frame_under a.depth records head) (λ f. bind (attributes_of records frames (heads.Frame f)) (λ b. bind (start_of keys values f) (λ p.
-      cond (leb b.size 64) (Some (record { frame = f; start = p; size = b.size; depth = a.depth; count = a.size })) None))))) e
-
   module _ (before : K → K → Bool) (level : Level) (first target : ℕ) (s : Source) (e : Some s ≡ source_of records frames keys values head) where
     built_from_lem : built_from before (deltas_from s.depth records head) keys values level s first target (items_from keys values s.start s.size) ≡ built before level records frames keys values head first target
     built_from_lem =
@@ -255,7 +243,7 @@ module _ {K : Type 0} (records : List (Record K)) (frames : List (Frame K)) (key
 pub not_in_arrays : {K : Type 0} (keys : List K) (values : List ℕ) (f : ℕ) (b : Bool) → None ≡ start_of keys values f → (b && in_arrays keys values f) ≡ false
 not_in_arrays keys values f b e =
     elim (cases_Bool (in_arrays keys values f)) [
-      | inl h ↦ absurd (none_some (e ∙ cond-true (in_arrays keys values f) _ _ h))
+      | inl h ↦ absurd (none-some _ (e ∙ cond-true (in_arrays keys values f) _ _ h))
       | inr h ↦ elim (cases_Bool b) [ inl t ↦ rw (h, t) refl | inr t ↦ rw (h, t) refl ]
     ]
 

@@ -56,7 +56,7 @@ module _ {K : Type 0} (before : K → K → Bool) (law : Lawful K before) where
 
   -- what a pass finds is a delta's
   pub found_in : (rs : List (Delta K)) (last : Option K) → AllNext (λ k. In k rs) (scanned before last unseen rs)
-  found_in rs last = next_scan (λ k. In k rs) last rs unseen (λ e h. absurd (let z : ◌≡◌ {A = ℕ} 0 1 = cc in omega arith)) (λ k i. i)
+  found_in rs last = next_scan (λ k. In k rs) last rs unseen (λ e h. absurd cc) (λ k i. i)
 
   reach_less : (k : K) (rs : List (Delta K)) → In k rs → (n : Option (Edit K)) → ((e : Edit K) → n ≡ Some e → before e.key k ≡ true) → reach n rs < tally (λ (x : K). not (before k x)) rs
   reach_less k rs i None f =

@@ -1,5 +1,6 @@
 -- a merge fills the places above a floor with the last items of the replay
 use Rattle.std.proofs.Common.{◌≡◌, ℕ, suc, ◌+◌, ◌-◌, ◌<◌, ◌≤◌, Bool, true, false, cond, not, ◌&&◌, ◌||◌, leb, ◌⊎◌, List, [], ◌∷◌, ◌++◌, map, length, take, drop, set, Some, None, Option, sym, refl, ap, ◌∙◌, subst, inl, inr, arith}
+use Rattle.std.proofs.lemmas.Option.{none-some, same_Some}
 use Rattle.keys.specs.Order.{Lawful}
 use Rattle.std.proofs.lemmas.List.{drop_all, take_all}
 use Rattle.std.proofs.lemmas.Bool.{and_parts, cases_Bool, cases_lt, cond_both, leb-true, le-ltb, lt-ltb, or_cases}
@@ -18,10 +19,10 @@ use Rattle.nodes.specs.Merge.{chosen, fillable, filled, from_chain, from_frame, 
 use Rattle.nodes.specs.Scan.{scanned, unseen}
 use Rattle.nodes.proofs.Backward.{descending_down, down, down_rest, down_top, lookup_down}
 use Rattle.nodes.proofs.Counts.{AllNext, found_in, In, reach, reach_falls}
-use Rattle.nodes.proofs.Items.{Ascending, ascending_from, below_limit, Descending, under_next, with_last}
+use Rattle.nodes.proofs.ItemLists.{Ascending, ascending_from, below_limit, Descending, under_next, with_last}
 use Rattle.nodes.proofs.Merges.{Goes, goes, Stands, stops, top_of}
 use Rattle.nodes.proofs.Passes.{ascending_replay, whole}
-use Rattle.nodes.proofs.Ranges.{before_among, items_length, none_some, some_same}
+use Rattle.nodes.proofs.Ranges.{before_among, items_length}
 use Rattle.nodes.proofs.Writes.{length_written, puts_front, puts_other, take_front, take_zero}
 
 below_none : {K : Type 0} (before : K → K → Bool) (xs : List (Item K)) → below_limit before None xs ≡ xs
@@ -34,10 +35,10 @@ all_true (x ∷ xs) = (refl, all_true xs)
 
 -- only where the frame has an item does a pick use it up
 chosen_frame : {K : Type 0} (before : K → K → Bool) (o : Option (Item K)) (l : Option K) (n : Option (Edit K)) (p : Pick K) → chosen before o l n ≡ Some p → p.frame ≡ true → o ≡ None → ⊥
-chosen_frame before None l None p e b f = none_some e
+chosen_frame before None l None p e b f = none-some _ e
 chosen_frame {K = K} before None l (Some d) p e b f =
-    let q : from_chain before d false ≡ p = some_same e in let z : false ≡ true = ap (λ (x : Pick K). x.frame) q ∙ b in grind (arith, z)
-chosen_frame before (Some x) l n p e b f = none_some (sym f)
+    let q : from_chain before d false ≡ p = same_Some _ _ e in let z : false ≡ true = ap (λ (x : Pick K). x.frame) q ∙ b in grind (arith, z)
+chosen_frame before (Some x) l n p e b f = none-some _ (sym f)
 
 before_same : {K : Type 0} (ks ks' : List K) (vs vs' : List ℕ) (start p : ℕ) → (start < p → slice_get ks' (p - 1) ≡ slice_get ks (p - 1)) → (start < p → slice_get vs' (p - 1) ≡ slice_get vs (p - 1))
     → item_before ks' vs' start p ≡ item_before ks vs start p
@@ -261,17 +262,17 @@ module _ {K : Type 0} (before : K → K → Bool) (chain : List (Delta K)) (keys
 
     falls : (o : Option (Item K)) (l : Option K) (n : Option (Edit K)) (i : ℕ) → ((y : Item K) → o ≡ Some y → 0 < i) → AllNext (λ k. In k chain) (record { limit = l; next = n })
         → (p : Pick K) → chosen before o l n ≡ Some p → Less i (record { limit = l; next = n }) p
-    falls None l None i f a p e = absurd (none_some e)
-    falls None l (Some d) i f a p e = subst (λ (z : Pick K). Less i (record { limit = l; next = Some d }) z) (some_same e) (by_chain i l d false (a d refl))
-    falls (Some y) l None i f a p e = subst (λ (z : Pick K). Less i (record { limit = l; next = None }) z) (some_same e) (by_frame i (record { limit = l; next = None }) y (f y refl))
+    falls None l None i f a p e = absurd (none-some _ e)
+    falls None l (Some d) i f a p e = subst (λ (z : Pick K). Less i (record { limit = l; next = Some d }) z) (same_Some _ _ e) (by_chain i l d false (a d refl))
+    falls (Some y) l None i f a p e = subst (λ (z : Pick K). Less i (record { limit = l; next = None }) z) (same_Some _ _ e) (by_frame i (record { limit = l; next = None }) y (f y refl))
     falls (Some y) l (Some d) i f a p e =
         elim (cases_Bool (before d.key y.key)) [
-          | inl h ↦ subst (λ (z : Pick K). Less i (record { limit = l; next = Some d }) z) (some_same (rw h at e)) (by_frame i (record { limit = l; next = Some d }) y (f y refl))
-          | inr h ↦ subst (λ (z : Pick K). Less i (record { limit = l; next = Some d }) z) (some_same (rw h at e)) (by_chain i l d (not (before y.key d.key)) (a d refl))
+          | inl h ↦ subst (λ (z : Pick K). Less i (record { limit = l; next = Some d }) z) (same_Some _ _ (rw h at e)) (by_frame i (record { limit = l; next = Some d }) y (f y refl))
+          | inr h ↦ subst (λ (z : Pick K). Less i (record { limit = l; next = Some d }) z) (same_Some _ _ (rw h at e)) (by_chain i l d (not (before y.key d.key)) (a d refl))
         ]
 
     before_within : (ks : List K) (vs : List ℕ) (p : ℕ) (y : Item K) → item_before ks vs start p ≡ Some y → 0 < p
-    before_within ks vs p y e = elim (cases_lt start p) [ inl h ↦ omega arith | inr h ↦ absurd (none_some (rw (le-ltb start p h) at e)) ]
+    before_within ks vs p y e = elim (cases_lt start p) [ inl h ↦ omega arith | inr h ↦ absurd (none-some _ (rw (le-ltb start p h) at e)) ]
 
     -- what holds at each turn, on any memory
     abbrev pub Inv : List K → List ℕ → Cursor K → Type 0
@@ -284,24 +285,24 @@ module _ {K : Type 0} (before : K → K → Bool) (chain : List (Delta K)) (keys
     module _ (ks : List K) (vs : List ℕ) (c : Cursor K) (inv : Inv ks vs c) where
       pub turn_inv : floor < c.target → (o : Option (Pick K)) → picked before ks vs start c ≡ o → (m : Cursor K) (ks' : List K) (vs' : List ℕ)
           → Some m ≡ turned_cursor before chain floor c o → ks' ≡ turned_keys before ks floor c.target o → vs' ≡ turned_values before vs floor c.target o → Inv ks' vs' m
-      turn_inv h None e m ks' vs' a b d = absurd (none_some (sym a))
+      turn_inv h None e m ks' vs' a b d = absurd (none-some _ (sym a))
       turn_inv h (Some p) e m ks' vs' a b d =
           subst (λ (z : List K). Inv z vs' m) (sym b) (subst (λ (z : List ℕ). Inv (turned_keys before ks floor c.target (Some p)) z m) (sym d)
-          (subst (λ (z : Cursor K). Inv (turned_keys before ks floor c.target (Some p)) (turned_values before vs floor c.target (Some p)) z) (sym (some_same a)) (
+          (subst (λ (z : Cursor K). Inv (turned_keys before ks floor c.target (Some p)) (turned_values before vs floor c.target (Some p)) z) (sym (same_Some _ _ a)) (
             cond_both p.chain _ _ (λ (s : Seen K). AllNext (λ k. In k chain) s) (λ _. found_in before law chain (Some p.key)) (λ _. inv.0),
             λ base f. again law base f ks vs c (inv.1 base f) p e h,
           )))
 
       pub turn_less : (o : Option (Pick K)) → picked before ks vs start c ≡ o → (m : Cursor K) → Some m ≡ turned_cursor before chain floor c o → measure m < measure c
-      turn_less None e m a = absurd (none_some (sym a))
+      turn_less None e m a = absurd (none-some _ (sym a))
       turn_less (Some p) e m a =
-          subst (λ (z : Cursor K). measure z < measure c) (sym (some_same a))
+          subst (λ (z : Cursor K). measure z < measure c) (sym (same_Some _ _ a))
           (falls (item_before ks vs start c.frame) c.seen.limit c.seen.next c.frame (λ y q. before_within ks vs c.frame y q) inv.0 p e)
 
       pub turn_stops : floor < c.target → (o : Option (Pick K)) → picked before ks vs start c ≡ o → (ks' : List K) (vs' : List ℕ)
           → None ≡ turned_cursor before chain floor c o → Promised (filled before chain keys values start stop floor top) (record { keys = ks'; values = vs' })
       turn_stops h None e ks' vs' a = promise _ (λ base f. absurd (stopped law base f ks vs c (inv.1 base f) h e))
-      turn_stops h (Some p) e ks' vs' a = absurd (none_some a)
+      turn_stops h (Some p) e ks' vs' a = absurd (none-some _ a)
 
       pub finished : c.target ≤ floor → Promised (filled before chain keys values start stop floor top) (record { keys = ks; values = vs })
       finished h = promise _ (λ base f. done law base f ks vs c (inv.1 base f) h)

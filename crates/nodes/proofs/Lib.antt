@@ -2,11 +2,12 @@ pub mod Backward
 pub mod Building
 pub mod Counts
 pub mod Descents
-pub mod Fields
 pub mod Filling
-pub mod Items
+pub mod Gets
+pub mod ItemLists
 pub mod Merges
 pub mod Passes
+pub mod Passing
 pub mod Ranges
 pub mod Ranks
 pub mod Writes

@@ -1,5 +1,6 @@
 -- a merge picks the keys of the replay in turn, the greatest first
 use Rattle.std.proofs.Common.{◌≡◌, ℕ, Bool, true, false, cond, not, List, [], ◌∷◌, Some, None, Option, sym, refl, subst, inl, inr, arith}
+use Rattle.std.proofs.lemmas.Option.{none-some, same_Some}
 use Rattle.keys.proofs.Laws.{asymmetric, same_itself}
 use Rattle.keys.specs.Order.{Lawful}
 use Rattle.std.proofs.lemmas.Bool.{cases_Bool}
@@ -13,9 +14,8 @@ use Rattle.nodes.specs.Chains.{replay}
 use Rattle.nodes.specs.Items.{lookup}
 use Rattle.nodes.specs.Merge.{chosen, from_chain, from_frame}
 use Rattle.nodes.specs.Scan.{ahead, fits, scanned, unseen}
-use Rattle.nodes.proofs.Items.{Ascending, below_limit, Descending, far_down, fits_more, lookup_under, there, Under, under_at, under_weaker}
+use Rattle.nodes.proofs.ItemLists.{Ascending, below_limit, Descending, far_down, fits_more, lookup_under, there, Under, under_at, under_weaker}
 use Rattle.nodes.proofs.Passes.{ahead_before, Scanned, whole}
-use Rattle.nodes.proofs.Ranges.{none_some, some_same}
 
 -- the first of a list, and the others
 abbrev pub top_of : {X : Type 0} → List X → Option X
@@ -113,7 +113,7 @@ module _ {K : Type 0} (before : K → K → Bool) (law : Lawful K before) where
     -- every turn takes the next key
     pub goes : (rest : List (Item K)) (l : Option K) (n : Option (Edit K)) → Stands before (replay before base rs) base last rest (record { limit = l; next = n })
         → (p : Pick K) → chosen before (top_of rest) l n ≡ Some p → Goes before (replay before base rs) base last rest (record { limit = l; next = n }) rs p
-    goes [] l None s p e = absurd (let z : ◌≡◌ {A = ℕ} 0 1 = cc in omega arith)
+    goes [] l None s p e = absurd cc
     goes [] l (Some d) s p e =
         let q : from_chain before d false ≡ p = cc in
         subst (λ (z : Pick K). Goes before (replay before base rs) base last [] (record { limit = l; next = Some d }) rs z) q
@@ -131,14 +131,14 @@ module _ {K : Type 0} (before : K → K → Bool) (law : Lawful K before) where
     goes (y ∷ ys) l (Some d) s p e =
         elim (cases_Bool (before d.key y.key)) [
           | inl f ↦
-              let q : from_frame before y l ≡ p = some_same (rw f at e) in
+              let q : from_frame before y l ≡ p = same_Some _ _ (rw f at e) in
               subst (λ (z : Pick K). Goes before (replay before base rs) base last (y ∷ ys) (record { limit = l; next = Some d }) rs z) q
               (record {
                 next = base_next (replay before base rs) base last y ys (record { limit = l; next = Some d }) s f;
                 on = base_on (replay before base rs) base last y ys (record { limit = l; next = Some d }) s f;
               })
           | inr f ↦
-              let q : from_chain before d (not (before y.key d.key)) ≡ p = some_same (rw f at e) in
+              let q : from_chain before d (not (before y.key d.key)) ≡ p = same_Some _ _ (rw f at e) in
               subst (λ (z : Pick K). Goes before (replay before base rs) base last (y ∷ ys) (record { limit = l; next = Some d }) rs z) q
               (record {
                 next = chain_next (replay before base rs) base last d l (y ∷ ys) s (λ x h. lookup_under before law x (y ∷ ys) (far_down before law x d.key y ys h f s.descend));
@@ -150,9 +150,9 @@ module _ {K : Type 0} (before : K → K → Bool) (law : Lawful K before) where
     pub stops : (rest : List (Item K)) (l : Option K) (n : Option (Edit K)) → Stands before (replay before base rs) base last rest (record { limit = l; next = n })
         → chosen before (top_of rest) l n ≡ None → below_limit before last (replay before base rs) ≡ []
     stops [] l None s e = ended (replay before base rs) base last l s
-    stops [] l (Some d) s e = absurd (let z : ◌≡◌ {A = ℕ} 0 1 = cc in omega arith)
-    stops (y ∷ ys) l None s e = absurd (let z : ◌≡◌ {A = ℕ} 0 1 = cc in omega arith)
+    stops [] l (Some d) s e = absurd cc
+    stops (y ∷ ys) l None s e = absurd cc
     stops (y ∷ ys) l (Some d) s e = elim (cases_Bool (before d.key y.key)) [
-      | inl f ↦ absurd (none_some (sym (rw f at e)))
-      | inr f ↦ absurd (none_some (sym (rw f at e)))
+      | inl f ↦ absurd (none-some _ (sym (rw f at e)))
+      | inr f ↦ absurd (none-some _ (sym (rw f at e)))
     ]

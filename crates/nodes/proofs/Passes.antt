@@ -12,7 +12,7 @@ use Rattle.nodes.specs.declared.scan.Seen.{Seen}
 use Rattle.nodes.specs.Chains.{applied, replay}
 use Rattle.nodes.specs.Items.{lookup}
 use Rattle.nodes.specs.Scan.{ahead, between, fits, looked, narrowed, scanned, unseen}
-use Rattle.nodes.proofs.Items.{Ascending, ascending_below, ascending_insert, ascending_remove, lookup_below, lookup_insert, lookup_remove}
+use Rattle.nodes.proofs.ItemLists.{Ascending, ascending_below, ascending_insert, ascending_remove, lookup_below, lookup_insert, lookup_remove}
 
 module _ {K : Type 0} (before : K → K → Bool) where
   -- what a record makes of a key, of which the older part of the chain says w

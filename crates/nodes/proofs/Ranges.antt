@@ -1,21 +1,15 @@
 -- the items from a place on, one by one
-use Rattle.std.proofs.Common.{◌≡◌, ℕ, zero, suc, ◌+◌, ◌-◌, ◌<◌, ◌≤◌, List, [], ◌∷◌, map, length, take, drop, Some, None, Option, sym, refl, ap, ◌∙◌, arith}
+use Rattle.std.proofs.Common.{◌≡◌, ℕ, zero, suc, ◌+◌, ◌-◌, ◌<◌, ◌≤◌, List, ◌∷◌, map, length, take, drop, Some, None, Option, sym, refl, ap, ◌∙◌, arith}
+use Rattle.std.proofs.Math.Seq.{drop-cons}
+use Rattle.std.proofs.lemmas.Option.{get_or_from_slice_get, none-some, same_Some, slice_get_within}
 use Rattle.std.proofs.lemmas.Bool.{le-ltb, lt-ltb}
 use Rattle.std.specs.List.{slice_get}
 use Rattle.nodes.specs.declared.node.Item.{Item}
 use Rattle.nodes.specs.Chains.{bind}
 use Rattle.nodes.specs.Frames.{item_at, item_before, items_from}
 
-pub none_some : {X : Type 0} {x : X} → None ≡ Some x → ⊥
-none_some e = let z : ◌≡◌ {A = ℕ} 0 1 = cc in omega arith
-
-pub some_same : {X : Type 0} {x y : X} → Some x ≡ Some y → x ≡ y
-some_same e = cc
-
 take_at_nth : {X : Type 0} (xs : List X) (p n : ℕ) (x : X) → slice_get xs p ≡ Some x → x ∷ take n (drop (suc p) xs) ≡ take (suc n) (drop p xs)
-take_at_nth [] p n x e = absurd (none_some e)
-take_at_nth {X = X} (y ∷ ys) zero n x e = ap (λ (z : X). z ∷ take n ys) (sym (some_same e))
-take_at_nth (y ∷ ys) (suc p) n x e = take_at_nth ys p n x e
+take_at_nth xs p n x e = rw (drop-cons xs p x (slice_get_within xs p x e), get_or_from_slice_get xs p x x e) refl
 
 module _ {K : Type 0} where
   -- a list that is there is its first item and the others
@@ -27,14 +21,14 @@ module _ {K : Type 0} where
     pub whole : xs ≡ first ∷ others
 
   opened : (o : Option (Item K)) (t : Option (List (Item K))) (xs : List (Item K)) → bind o (λ x. bind t (λ ys. Some (x ∷ ys))) ≡ Some xs → Opened o t xs
-  opened None t xs e = absurd (none_some e)
-  opened (Some x) None xs e = absurd (none_some e)
-  opened (Some x) (Some ys) xs e = record { first = x; others = ys; at_first = refl; at_others = refl; whole = sym (some_same e) }
+  opened None t xs e = absurd (none-some _ e)
+  opened (Some x) None xs e = absurd (none-some _ e)
+  opened (Some x) (Some ys) xs e = record { first = x; others = ys; at_first = refl; at_others = refl; whole = sym (same_Some _ _ e) }
 
   key_at : (k : Option K) (v : Option ℕ) (x : Item K) → bind k (λ k. bind v (λ v. Some (record { key = k; value = v }))) ≡ Some x → (k ≡ Some x.key) × (v ≡ Some x.value)
-  key_at None v x e = absurd (none_some e)
-  key_at (Some k) None x e = absurd (none_some e)
-  key_at (Some k) (Some v) x e = (ap (λ (y : Item K). Some y.key) (some_same e), ap (λ (y : Item K). Some y.value) (some_same e))
+  key_at None v x e = absurd (none-some _ e)
+  key_at (Some k) None x e = absurd (none-some _ e)
+  key_at (Some k) (Some v) x e = (ap (λ (y : Item K). Some y.key) (same_Some _ _ e), ap (λ (y : Item K). Some y.value) (same_Some _ _ e))
 
   module _ (keys : List K) (values : List ℕ) where
     pub item_parts : (p : ℕ) (x : Item K) → item_at keys values p ≡ Some x → (slice_get keys p ≡ Some x.key) × (slice_get values p ≡ Some x.value)
@@ -44,7 +38,7 @@ module _ {K : Type 0} where
     items_open p n xs e = opened (item_at keys values p) (items_from keys values (suc p) n) xs e
 
     pub items_length : (p n : ℕ) (xs : List (Item K)) → items_from keys values p n ≡ Some xs → length xs ≡ n
-    items_length p zero xs e = ap length (sym (some_same e))
+    items_length p zero xs e = ap length (sym (same_Some _ _ e))
     items_length p (suc n) xs e = let u = items_open p n xs e in ap length u.whole ∙ ap suc (items_length (suc p) n u.others u.at_others)
 
     pub items_at : (p n : ℕ) (xs : List (Item K)) → items_from keys values p n ≡ Some xs → (i : ℕ) → i < n → item_at keys values (p + i) ≡ slice_get xs i
@@ -59,7 +53,7 @@ module _ {K : Type 0} where
         ap (item_at keys values) q ∙ items_at (suc p) n u.others u.at_others i (omega arith) ∙ ap (λ (l : List (Item K)). slice_get l (suc i)) (sym u.whole)
 
     pub items_keys : (p n : ℕ) (xs : List (Item K)) → items_from keys values p n ≡ Some xs → map (λ (x : Item K). x.key) xs ≡ take n (drop p keys)
-    items_keys p zero xs e = ap (map (λ (x : Item K). x.key)) (sym (some_same e))
+    items_keys p zero xs e = ap (map (λ (x : Item K). x.key)) (sym (same_Some _ _ e))
     items_keys p (suc n) xs e =
         let u = items_open p n xs e in
         ap (map (λ (x : Item K). x.key)) u.whole

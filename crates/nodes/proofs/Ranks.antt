@@ -1,39 +1,42 @@
 -- the place of a key among keys that ascend
-use Rattle.std.proofs.Common.{◌≡◌, ℕ, zero, suc, ◌+◌, ◌-◌, ◌<◌, ◌≤◌, Bool, true, false, cond, not, leb, List, [], ◌∷◌, map, length, get_or, take, drop, Some, None, Option, sym, refl, ap, ◌∙◌, subst, inl, inr, arith}
+use Rattle.std.proofs.Common.{◌≡◌, ℕ, zero, suc, ◌+◌, ◌<◌, ◌≤◌, Bool, true, false, cond, not, leb, List, [], ◌∷◌, map, length, get_or, take, drop, Some, None, Option, Bor, sym, refl, ap, ◌∙◌, subst, inl, inr, arith}
 use Rattle.keys.proofs.Laws.{asymmetric}
 use Rattle.keys.specs.Order.{Ascending as KeysAscend, Lawful}
 use Rattle.std.proofs.ByRecursion.{All-get_or}
-use Rattle.std.proofs.lemmas.List.{get_or_default}
-use Rattle.std.proofs.lemmas.Option.{slice_get-get_or}
+use Rattle.std.proofs.lemmas.List.{get_or_default, length-map}
+use Rattle.std.proofs.lemmas.Option.{same_Some, slice_get-get_or}
 use Rattle.std.proofs.lemmas.Bool.{cases_Bool, cases_lt, cond_both, le-leb}
 use Rattle.std.specs.List.{slice_get, AllByRecursion}
+use Rattle.std.specs.Bool.{IsFalse}
+use Rattle.std.specs.Option.{MatchOption}
+use Rattle.std.specs.Slice.{IsItemAt}
+use Rattle.std.specs.List.Sorted.{IsPartitionedBy, IsPartitionPoint}
 use Rattle.nodes.specs.declared.node.Item.{Item}
-use Rattle.nodes.specs.declared.frame.Separators.{Separators}
+use Rattle.nodes.specs.declared.items.Separators.{Separators}
 use Rattle.nodes.specs.Build.{Kept}
 use Rattle.nodes.specs.Chains.{bind}
 use Rattle.nodes.specs.Frames.{found_in_frame, holds, item_before, items_from, items_in_frame, not_after, rank, separators_among, separators_in_frame, start_of}
 use Rattle.nodes.specs.Items.{ascends, last_not_after, lookup, or_else}
-use Rattle.nodes.specs.Halving.{Parts}
-use Rattle.nodes.proofs.Items.{Ascending, ascending_from, lookup_over, Over, over_at, over_weaker}
-use Rattle.nodes.proofs.Ranges.{before_among, items_keys, items_length, items_open, items_value, item_parts, last_among, some_same}
+use Rattle.nodes.proofs.ItemLists.{Ascending, ascending_from, lookup_over, Over, over_at, over_weaker}
+use Rattle.nodes.proofs.Ranges.{before_among, items_keys, items_length, items_open, items_value, item_parts, last_among}
 
 module _ {K : Type 0} (before : K → K → Bool) (law : Lawful K before) (k : K) where
-  -- on keys that ascend, the two neighbours tell the number of keys before k
-  pub rank_is : (ks : List K) (r : ℕ) → KeysAscend before ks → Parts before ks k r → r ≡ rank before k ks
-  rank_is [] r s p = omega (arith, p.within)
-  rank_is (x ∷ xs) zero s p = sym (ap (λ (b : Bool). cond b (suc (rank before k xs)) 0) (p.right (omega arith)))
-  rank_is (x ∷ xs) (suc zero) s p =
-      let rest : 0 ≡ rank before k xs = rank_is xs 0 s.1 (record { within = omega arith; left = λ h. absurd (omega arith); right = λ h. p.right (omega arith) }) in
-      let e : cond (before x k) (suc (rank before k xs)) 0 ≡ suc (rank before k xs) = ap (λ (b : Bool). cond b (suc (rank before k xs)) 0) (p.left (omega arith)) in
-      omega (arith, e, rest)
-  rank_is (x ∷ xs) (suc (suc r)) s p =
-      let u : suc (suc r) - 1 ≡ suc r = omega arith in
-      let v : suc r - 1 ≡ r = omega arith in
-      let y : before (get_or xs r k) k ≡ true = rw u at (p.left (omega arith)) in
-      let l : before x (get_or xs r k) ≡ true = All-get_or (λ y. before x y ≡ true) xs r k (omega (arith, p.within)) s.0 in
-      let rest : suc r ≡ rank before k xs = rank_is xs (suc r) s.1 (record { within = omega (arith, p.within); left = λ h. rw v y; right = λ h. p.right (omega arith) }) in
-      let e : cond (before x k) (suc (rank before k xs)) 0 ≡ suc (rank before k xs) = ap (λ (b : Bool). cond b (suc (rank before k xs)) 0) (law.transitive x (get_or xs r k) k l y) in
-      omega (arith, e, rest)
+  -- in keys that ascend, all that stand before k come first
+  pub parted : (ks : List K) → KeysAscend before ks → IsPartitionedBy (λ y. before y k) ks
+  parted [] s i j d h l e = absurd (omega arith)
+  parted (x ∷ xs) s zero zero d h l e = e
+  parted (x ∷ xs) s zero (suc j) d h l e = law.transitive x (get_or xs j d) k (All-get_or (λ y. before x y ≡ true) xs j d (omega arith) s.0) e
+  parted (x ∷ xs) s (suc i) zero d h l e = absurd (omega arith)
+  parted (x ∷ xs) s (suc i) (suc j) d h l e = parted xs s.1 i j d (omega arith) (omega arith) e
+
+  -- the place between them and the others is their number
+  pub rank_is : (ks : List K) (r : ℕ) → r ≤ length ks → IsPartitionPoint (λ y. before y k ≡ true) (λ y. before y k ≡ false) ks r → r ≡ rank before k ks
+  rank_is [] r h p = omega (arith, h)
+  rank_is (x ∷ xs) zero h p = let e : before x k ≡ false = p.1 0 k (omega arith) (omega arith) in rw e refl
+  rank_is (x ∷ xs) (suc r) h p =
+      let e : before x k ≡ true = p.0 0 k (omega arith) (omega arith) in
+      let rest : r ≡ rank before k xs = rank_is xs r (omega (arith, h)) ((λ i d l m. p.0 (suc i) d (omega arith) (omega arith)), (λ i d l m. p.1 (suc i) d (omega arith) (omega arith))) in
+      rw e (ap suc rest)
 
   holds_at : (ks : List K) → rank before k ks < length ks → holds before k ks ≡ not (before k (get_or ks (rank before k ks) k))
   holds_at [] h = absurd (omega arith)
@@ -52,14 +55,12 @@ module _ {K : Type 0} (before : K → K → Bool) (law : Lawful K before) (k : K
       ]
 
   -- what the code reads at the place
-  pub found_here : (ks : List K) (r : ℕ) (x : K) (b : Bool) → r ≡ rank before k ks → r < length ks → x ≡ get_or ks r x → b ≡ before k x → not b ≡ holds before k ks
-  found_here ks r x b e h f g =
-      let d : get_or ks r x ≡ get_or ks r k = get_or_default ks r x k h in
-      let l : rank before k ks < length ks = omega (arith, e) in
-      ap not (g ∙ ap (before k) (f ∙ d ∙ ap (λ (n : ℕ). get_or ks n k) e)) ∙ sym (holds_at ks l)
-
-  pub found_not : (ks : List K) (r : ℕ) → r ≡ rank before k ks → length ks ≤ r → false ≡ holds before k ks
-  found_not ks r e h = sym (holds_past ks (omega (arith, e)))
+  pub found_at : (ks : List K) (r : ℕ) (o : Option (Bor K)) (b : Bool) {P : Bor K → Type 0} → r ≡ rank before k ks → IsItemAt ks r o → MatchOption o (IsFalse b) P
+      → ((x : Bor K) → P x → b ≡ not (before k x.now)) → b ≡ holds before k ks
+  found_at ks r None b e h m f = m ∙ sym (holds_past ks (omega (arith, e, h.3)))
+  found_at ks r (Some x) b e h m f =
+      let d : x.now ≡ get_or ks r k = h.1 ∙ get_or_default ks r x.now k h.3.0 in
+      f x m ∙ ap not (ap (before k) (d ∙ ap (λ (n : ℕ). get_or ks n k) e)) ∙ sym (holds_at ks (omega (arith, e, h.3.0)))
 
   abbrev keys_of : List (Item K) → List K
   keys_of xs = map (λ (x : Item K). x.key) xs
@@ -103,17 +104,13 @@ module _ {K : Type 0} (before : K → K → Bool) (law : Lawful K before) (k : K
   or_first x xs zero h = refl
   or_first x xs (suc m) h = let e = slice_get-get_or xs m x h in rw e refl
 
-  length_keys : (xs : List (Item K)) → length (keys_of xs) ≡ length xs
-  length_keys [] = refl
-  length_keys (x ∷ xs) = ap suc (length_keys xs)
-
   best_rank : (xs : List (Item K)) → Ascending before xs → last_not_after before k xs ≡ last_among xs (not_after before k (keys_of xs))
   best_rank [] s = refl
   best_rank (x ∷ xs) s =
       elim (cases_Bool (before x.key k)) [
         | inl e ↦
             let f : before k x.key ≡ false = asymmetric law x.key k e in
-            let l : not_after before k (keys_of xs) ≤ length xs = subst (λ (n : ℕ). not_after before k (keys_of xs) ≤ n) (length_keys xs) (not_after-le (keys_of xs)) in
+            let l : not_after before k (keys_of xs) ≤ length xs = subst (λ (n : ℕ). not_after before k (keys_of xs) ≤ n) (length-map xs (λ (x : Item K). x.key)) (not_after-le (keys_of xs)) in
             let m : cond (holds before k (keys_of xs)) (suc (suc (rank before k (keys_of xs)))) (suc (rank before k (keys_of xs))) ≡ suc (not_after before k (keys_of xs)) =
             grind (arith, cases_Bool (holds before k (keys_of xs))) in
             rw (e, f, m) (ap (λ (o : Option (Item K)). or_else o (Some x)) (best_rank xs s.1) ∙ or_first x xs (not_after before k (keys_of xs)) l)
@@ -122,9 +119,6 @@ module _ {K : Type 0} (before : K → K → Bool) (law : Lawful K before) (k : K
           | inr f ↦ rw (e, f) (ap (λ (o : Option (Item K)). or_else o (Some x)) (none_after xs (over_at before law k x.key xs f e s.0)))
         ]
       ]
-
-  counted_is : (ks : List K) (found : Bool) (place : ℕ) → found ≡ holds before k ks → place ≡ rank before k ks → cond found (suc place) place ≡ not_after before k ks
-  counted_is ks found place e f = rw (e, f) refl
 
   module _ (keys : List K) (values : List ℕ) (f n p : ℕ) (e : Some p ≡ start_of keys values f) (l : n ≤ 64) where
     in_frame : {X : Type 0} (h : List (Item K) → Option X) → bind (items_in_frame keys values f n) h ≡ bind (items_from keys values p n) h
@@ -140,7 +134,7 @@ module _ {K : Type 0} (before : K → K → Bool) (law : Lawful K before) (k : K
       value_here xs i false h = refl
       value_here xs i true h =
           let w = rank_within (keys_of xs) h in
-          items_value keys values p n xs i (rank before k (keys_of xs)) (omega (arith, w, length_keys xs, items_length keys values p n xs i))
+          items_value keys values p n xs i (rank before k (keys_of xs)) (omega (arith, w, length-map xs (λ (x : Item K). x.key), items_length keys values p n xs i))
 
       find_at : (o : Option (List (Item K))) → items_from keys values p n ≡ o → Kept (bind o (λ xs. cond (ascends before xs) (Some (lookup before k xs)) None)) (Some r)
       find_at None i = tt
@@ -165,7 +159,7 @@ module _ {K : Type 0} (before : K → K → Bool) (law : Lawful K before) (k : K
     separators_at [] i = tt
     separators_at (x ∷ xs) i =
         let u = items_open keys values p n (x ∷ xs) i in
-        let first : v ≡ x.value = some_same (sym at_first ∙ (item_parts keys values p u.first u.at_first).1 ∙ ap (λ (l : List (Item K)). bind (slice_get l 0) (λ x. Some x.value)) (sym u.whole)) in
+        let first : v ≡ x.value = same_Some _ _ (sym at_first ∙ (item_parts keys values p u.first u.at_first).1 ∙ ap (λ (l : List (Item K)). bind (slice_get l 0) (λ x. Some x.value)) (sym u.whole)) in
         let others : u.others ≡ xs = ap (drop 1) (sym u.whole) in
         let j : items_from keys values (suc p) n ≡ Some xs = u.at_others ∙ ap Some others in
         cond_both (ascends before xs) _ _ (λ (o : Option (Separators K)). Kept o (Some (record { first = v; best = best })))
@@ -174,7 +168,7 @@ module _ {K : Type 0} (before : K → K → Bool) (law : Lawful K before) (k : K
         let same : keys_of xs ≡ part = items_keys keys values (suc p) n xs j ∙ sym q in
         let c : count ≡ not_after before k (keys_of xs) = is_count (subst (KeysAscend before) same (keys_ascend xs s)) ∙ ap (not_after before k) (sym same) in
         let le : not_after before k (keys_of xs) ≤ n =
-        subst (λ (m : ℕ). not_after before k (keys_of xs) ≤ m) (length_keys xs ∙ items_length keys values (suc p) n xs j) (not_after-le (keys_of xs)) in
+        subst (λ (m : ℕ). not_after before k (keys_of xs) ≤ m) (length-map xs (λ (x : Item K). x.key) ∙ items_length keys values (suc p) n xs j) (not_after-le (keys_of xs)) in
         let b : best ≡ last_not_after before k xs =
         is_best ∙ ap (λ (m : ℕ). item_before keys values (suc p) (suc p + m)) c ∙ before_among keys values (suc p) n xs j (not_after before k (keys_of xs)) le ∙ sym (best_rank xs s) in
         ap Some (λ i. record { first = first i; best = b i }))

@@ -23,20 +23,17 @@ puts_set [] xs p q y h = refl
 puts_set {X = X} (z ∷ zs) xs p q y h =
     ap (λ (t : List X). puts t (suc p) zs) (set_comm xs q p y z (λ e. omega arith)) ∙ puts_set zs (set xs p z) (suc p) q y (omega arith)
 
-nil_cons : {X : Type 0} {x : X} {xs : List X} → [] ≡ x ∷ xs → ⊥
-nil_cons e = let z : ◌≡◌ {A = ℕ} 0 1 = cc in omega arith
-
 pub take_zero : {Y : Type 0} (ys : List Y) (m : ℕ) → m ≤ length ys → take m ys ≡ [] → m ≡ 0
 take_zero ys zero h e = refl
 take_zero [] (suc m) h e = absurd (omega arith)
-take_zero (y ∷ ys) (suc m) h e = absurd (nil_cons (sym e))
+take_zero (y ∷ ys) (suc m) h e = absurd cc
 
 -- the first m + 1 end with y
 last_take : {Y : Type 0} (ys : List Y) (m : ℕ) (zs : List Y) (y : Y) → suc m ≤ length ys → take (suc m) ys ≡ zs ++ (y ∷ []) → (take m ys ≡ zs) × (drop m ys ≡ y ∷ drop (suc m) ys)
 last_take [] m zs y h e = absurd (omega arith)
 last_take (x ∷ xs) zero [] y h e = (refl, cc)
-last_take (x ∷ xs) zero (z ∷ []) y h e = absurd (let q : [] ≡ y ∷ [] = cc in nil_cons q)
-last_take (x ∷ xs) zero (z ∷ (w ∷ zs)) y h e = absurd (let q : [] ≡ w ∷ (zs ++ (y ∷ [])) = cc in nil_cons q)
+last_take (x ∷ xs) zero (z ∷ []) y h e = absurd cc
+last_take (x ∷ xs) zero (z ∷ (w ∷ zs)) y h e = absurd cc
 last_take (x ∷ xs) (suc m) [] y h e =
     absurd (let q : take (suc m) xs ≡ [] = cc in let n = take_zero xs (suc m) (omega arith) q in omega arith)
 last_take (x ∷ xs) (suc m) (z ∷ zs) y h e =

@@ -1,6 +1,7 @@
 -- the replay of a head, and the frame that a build fills with it
-use Rattle.std.specs.Prelude.{◌≡◌, ℕ, suc, Bool, true, cond, not, ◌&&◌, List, [], ◌∷◌, map, length, drop, Some, None, Option, ◌==◌, nat_le, slice_set}
+use Rattle.std.specs.Prelude.{◌≡◌, ℕ, suc, Bool, true, cond, not, ◌&&◌, List, [], ◌∷◌, map, length, drop, Some, None, Option, is_some, ◌==◌, nat_le, slice_set}
 use Rattle.nodes.specs.declared.build.Source.{Source}
+use Rattle.nodes.specs.declared.items.ItemsMut.{ItemsMut}
 use Rattle.nodes.specs.declared.node.Delta.{Delta}
 use Rattle.nodes.specs.declared.node.Frame.{Frame}
 use Rattle.nodes.specs.declared.node.Head.{Head}
@@ -17,6 +18,15 @@ use Rattle.nodes.specs.Frames.{in_arrays, items_from, place_of, start_of}
 pub record Arrays (K : Type 0) : Type 0 where
   pub keys : List K
   pub values : List ℕ
+
+module _ {K : Type 0} where
+  abbrev pub arrays_of : ItemsMut K → Arrays K
+  arrays_of items = record { keys = items.keys.now; values = items.values.now }
+
+  -- the same arrays are lent
+  pub record SameItems (a b : ItemsMut K) : Type 0 where
+    pub keys : a.keys.ghost_name ≡ b.keys.ghost_name
+    pub values : a.values.ghost_name ≡ b.values.ghost_name
 
 -- the arrays after a build, and its answer: whether every number lay in range
 pub record Outcome (K : Type 0) : Type 0 where
@@ -80,6 +90,10 @@ module _ {K : Type 0} (before : K → K → Bool) where
 abbrev pub Promised : {X : Type 0} → Option X → X → Type 0
 Promised None o = Unit {0}
 Promised (Some p) o = o ≡ p
+
+-- the same of a build: the arrays after it, and whether it was carried out
+abbrev pub Builds : {K X : Type 0} → Option (Outcome K) → ItemsMut K → Option X → Type 0
+Builds rule items answer = Promised rule (record { arrays = arrays_of items; answer = is_some answer })
 
 -- the same of a function that answers None where a number lies out of range
 abbrev pub Kept : {X : Type 0} → Option X → Option X → Type 0

@@ -1,6 +1,7 @@
 -- chains in memory: the records from a head down, the frame under them, and the items that they stand for
 use Rattle.std.specs.Prelude.{ℕ, zero, suc, Bool, List, [], ◌∷◌, Some, None, Option}
 use Rattle.std.specs.List.{slice_get}
+use Rattle.nodes.specs.declared.chain.Chain.{Chain}
 use Rattle.nodes.specs.declared.node.Attributes.{Attributes}
 use Rattle.nodes.specs.declared.node.Delta.{Delta}
 use Rattle.nodes.specs.declared.node.Frame.{Frame}
@@ -31,6 +32,10 @@ module _ {K : Type 0} where
   deltas_from zero records at = []
   deltas_from (suc n) records (heads.Frame f) = []
   deltas_from (suc n) records (heads.Record i) = elim (slice_get records i) [ None ↦ [] | Some r ↦ r.delta ∷ deltas_from n records r.delta.next ]
+
+  -- the deltas that a chain yields
+  abbrev pub deltas_of : Chain K → List (Delta K)
+  deltas_of c = deltas_from c.depth c.records.now c.head
 
   -- the frame under a head, at most n records down
   abbrev pub frame_under : ℕ → List (Record K) → Head → Option ℕ

@@ -2,7 +2,7 @@
 use Rattle.std.specs.Prelude.{ℕ, zero, suc, ◌+◌, ◌-◌, ◌*◌, Bool, false, cond, not, ◌&&◌, List, [], ◌∷◌, length, Some, None, Option, nat_le, nat_lt}
 use Rattle.std.specs.List.{slice_get}
 use Rattle.nodes.specs.declared.node.Item.{Item}
-use Rattle.nodes.specs.declared.frame.Separators.{Separators}
+use Rattle.nodes.specs.declared.items.Separators.{Separators}
 use Rattle.nodes.specs.Chains.{bind}
 use Rattle.nodes.specs.Items.{ascends, last_not_after, lookup}
 

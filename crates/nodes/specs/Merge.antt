@@ -1,7 +1,9 @@
 -- the merge of a frame's items with a chain's edits, from the greatest key down. The items to merge are at places from
 -- `start` on; the merged ones go to the places above `floor`, the last one first
-use Rattle.std.specs.Prelude.{ℕ, ◌+◌, ◌-◌, Bool, true, false, cond, not, ◌&&◌, ◌||◌, List, length, drop, Some, None, Option, nat_le, nat_lt, slice_set}
+use Rattle.std.specs.Prelude.{◌≡◌, ℕ, ◌+◌, ◌-◌, Bool, true, false, cond, not, ◌&&◌, ◌||◌, List, length, drop, Some, None, Option, nat_le, nat_lt, slice_set}
+use Rattle.nodes.specs.declared.items.ItemsMut.{ItemsMut}
 use Rattle.nodes.specs.declared.merge.Cursor.{Cursor}
+use Rattle.nodes.specs.declared.merge.Merge.{Merge}
 use Rattle.nodes.specs.declared.merge.Pick.{Pick}
 use Rattle.nodes.specs.declared.node.Delta.{Delta}
 use Rattle.nodes.specs.declared.node.Item.{Item}
@@ -10,7 +12,7 @@ use Rattle.nodes.specs.declared.node.Level.TheVariants as levels
 use Rattle.nodes.specs.declared.scan.Edit.{Edit}
 use Rattle.nodes.specs.declared.scan.Seen.{Seen}
 use Rattle.nodes.specs.Build.{Arrays, carried_out, Outcome, put_at}
-use Rattle.nodes.specs.Chains.{bind, replay}
+use Rattle.nodes.specs.Chains.{bind, deltas_of, replay}
 use Rattle.nodes.specs.Frames.{item_at, item_before, items_from}
 use Rattle.nodes.specs.Items.{ascends}
 use Rattle.nodes.specs.Scan.{fits, scanned, unseen}
@@ -74,6 +76,16 @@ module _ {K : Type 0} (before : K → K → Bool) where
   turned_cursor chain floor c (Some x) =
       Some (record { frame = receded c.frame x.frame; target = place_after floor c.target x.value; seen = renewed chain x.key x.chain c.seen })
 
+  -- the items and the cursor, and what they are after a turn that picks `pick`
+  pub record Takes (merge : Merge K) (c : Cursor K) (pick : Option (Pick K)) (a b : ItemsMut K) (next : Option (Cursor K)) : Type 0 where
+    pub cursor : next ≡ turned_cursor (deltas_of merge.chain) merge.floor c pick
+    pub keys : b.keys.now ≡ turned_keys a.keys.now merge.floor c.target pick
+    pub values : b.values.now ≡ turned_values a.values.now merge.floor c.target pick
+
+  -- the same after a turn
+  abbrev pub Turned : Merge K → Cursor K → ItemsMut K → ItemsMut K → Option (Cursor K) → Type 0
+  Turned merge c a b next = Takes merge c (picked a.keys.now a.values.now merge.start c) a b next
+
   -- the items at places start to stop - 1 ascend, their replay has enough items for places floor to top - 1, and the
   -- two ranges do not meet
   abbrev pub fillable : List (Item K) → List (Item K) → ℕ → ℕ → ℕ → ℕ → Bool
@@ -101,3 +113,13 @@ module _ {K : Type 0} (before : K → K → Bool) where
       cond (nat_lt start stop)
       (cond whole (bind (item_at keys values start) (λ x. carried_out (filled_root chain keys values x (start + 1) stop floor top)))
       (carried_out (filled chain keys values (start + 1) stop floor top))) None
+
+  -- the same by the numbers of a merge
+  abbrev pub merged : Merge K → ItemsMut K → Option (Arrays K)
+  merged m items = filled (deltas_of m.chain) items.keys.now items.values.now m.start m.stop m.floor m.top
+
+  abbrev pub merged_root : Merge K → ItemsMut K → Item K → Option (Arrays K)
+  merged_root m items x = filled_root (deltas_of m.chain) items.keys.now items.values.now x m.start m.stop m.floor m.top
+
+  abbrev pub merged_at : Level → Merge K → ItemsMut K → Bool → Option (Outcome K)
+  merged_at level m items whole = filled_at level (deltas_of m.chain) items.keys.now items.values.now m.start m.stop m.floor m.top whole

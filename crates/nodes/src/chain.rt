@@ -1,32 +1,50 @@
-ghost use Rattle.std.specs.Prelude.{◌≡◌, Some};
-ghost use Rattle.nodes.specs.Chains.{attributes_of, bind, frame_under};
-ghost use Rattle.std.specs.List.{slice_get};
+ghost use Rattle.std.specs.Prelude.{◌≡◌};
+ghost use Rattle.std.specs.List.{fold};
+ghost use Rattle.std.specs.Iterator.{YieldsFirstRef, item_count};
+ghost use Rattle.nodes.specs.Chains.{attributes_of, deltas_of, frame_under};
 
-use crate::node::{Attributes, Frame, Head, Record};
+use crate::node::{Attributes, Delta, Frame, Head, Record};
 
-/// The attributes that a record carries.
-fn record_attributes<K: Copy>(records: &[Record<K>], number: usize) -> Option<Attributes<K>>
-    ensures { result ≡ bind (slice_get records.now number) (λ x. Some x.delta.attributes) }
-{
-    if number < records.len() {
-        Some(records[number].delta.attributes)
-    } else {
-        None
+/// The records from a head down, at most `depth` of them; it yields their deltas, the newest first.
+// No equality: a view of lent memory is never compared.
+#[derive(Clone, Copy)]
+pub struct Chain<'a, K> {
+    pub records: &'a [Record<K>],
+    pub head: Head,
+    pub depth: usize,
+}
+
+impl<'a, K: Copy> Iterator for Chain<'a, K> {
+    type Item = &'a Delta<K>;
+
+    ghost next_gives = { YieldsFirstRef deltas_of };
+
+    ghost remaining = { item_count deltas_of };
+
+    fn next(&mut self) -> Option<&'a Delta<K>> {
+        let Head::Record(number) = self.head else {
+            return None;
+        };
+        let left = self.depth.checked_sub(1)?;
+        let delta = &self.records.get(number)?.delta;
+        self.head = delta.next;
+        self.depth = left;
+        Some(delta)
     }
 }
 
-/// The attributes that a frame carries.
-pub(crate) fn frame_attributes<K: Copy>(frames: &[Frame<K>], number: usize) -> Option<Attributes<K>>
-    ensures { result ≡ bind (slice_get frames.now number) (λ x. Some x.attributes) }
-{
-    if number < frames.len() {
-        Some(frames[number].attributes)
-    } else {
-        None
+impl<'a, K: Copy> Chain<'a, K> {
+    /// The head that the last record stands on.
+    fn bottom(self) -> Head
+        ensures { result ≡ fold (λ _ delta. delta.next) self.entry.head (deltas_of self.entry) }
+    {
+        let head = self.head;
+        self.fold(head, |_, delta| delta.next)
     }
 }
 
 /// The attributes of the chain that a head names.
+// The two pools are lent one by one: most functions need one alone.
 pub fn attributes<K: Copy>(
     records: &[Record<K>],
     frames: &[Frame<K>],
@@ -35,39 +53,23 @@ pub fn attributes<K: Copy>(
     ensures { result ≡ attributes_of records.now frames.now head }
 {
     match head {
-        Head::Record(number) => record_attributes(records, number),
-        Head::Frame(number) => frame_attributes(frames, number),
-    }
-}
-
-/// What a record stands on.
-fn next_of<K: Copy>(records: &[Record<K>], number: usize) -> Option<Head>
-    ensures { result ≡ bind (slice_get records.now number) (λ x. Some x.delta.next) }
-{
-    if number < records.len() {
-        Some(records[number].delta.next)
-    } else {
-        None
+        Head::Record(number) => records.get(number).map(|record| record.delta.attributes),
+        Head::Frame(number) => frames.get(number).map(|frame| frame.attributes),
     }
 }
 
 /// The frame under a head, at most `depth` records down.
+// The fields of a chain, one by one: the callers have a head and its depth, and no chain yet.
+#[tactic(auto, using(crate::proofs::Passing::frame_fold))]
 pub fn frame_under<K: Copy>(records: &[Record<K>], head: Head, depth: usize) -> Option<usize>
     ensures { result ≡ frame_under depth records.now head }
 {
-    let mut at = head;
-    let mut left = depth;
-    while left > 0 {
-        let Head::Record(number) = at else {
-            break;
-        };
-        let Some(next) = next_of(records, number) else {
-            return None;
-        };
-        at = next;
-        left -= 1;
-    }
-    match at {
+    let chain = Chain {
+        records,
+        head,
+        depth,
+    };
+    match chain.bottom() {
         Head::Record(_) => None,
         Head::Frame(number) => Some(number),
     }

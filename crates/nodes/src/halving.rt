@@ -2,34 +2,16 @@ ghost use Rattle.std.specs.Prelude.{◌≡◌, ◌<◌, ◌≤◌, true, length}
 ghost use Rattle.keys.specs.Order.{Ascending};
 ghost use Rattle.nodes.specs.Build.{Kept};
 ghost use Rattle.nodes.specs.Frames.{found_in_frame, holds, not_after, rank, separators_in_frame};
-ghost use Rattle.nodes.specs.Halving.{Parts};
 
-use crate::access::peek;
-use crate::frame::{Separators, item_before, start};
+use crate::items::{Items, PLACES, Separators};
 use keys::order::Ordered;
 
 /// Where a key stands among keys that ascend: how many stand before it, and whether it comes next.
-#[derive(Clone, Copy)]
+// A pair, not an Option: where the key is not found its place counts too.
+#[derive(Clone, Copy, Debug, PartialEq, Eq)]
 pub struct Found {
     pub found: bool,
     pub place: usize,
-}
-
-/// A place between a key that stands before k and one that does not, found by halving.
-fn parting<K: Ordered>(keys: &[K], k: &K) -> usize
-    ensures { Parts K.Ordered.before keys.now k.now result }
-{
-    let mut low: usize = 0;
-    let mut high: usize = keys.len();
-    while low < high {
-        let middle = low + (high - low) / 2;
-        if keys[middle].stands_before(k) {
-            low = middle + 1;
-        } else {
-            high = middle;
-        }
-    }
-    low
 }
 
 /// Where a key stands among keys that ascend.
@@ -39,12 +21,8 @@ pub fn locate<K: Ordered>(keys: &[K], k: &K) -> Found
     ensures place { Ascending K.Ordered.before keys.now → result.place ≡ rank K.Ordered.before k.now keys.now }
     ensures found { Ascending K.Ordered.before keys.now → result.found ≡ holds K.Ordered.before k.now keys.now }
 {
-    let place = parting(keys, k);
-    let found = if place < keys.len() {
-        !k.stands_before(&keys[place])
-    } else {
-        false
-    };
+    let place = keys.partition_point(|other| other.stands_before(k));
+    let found = keys.get(place).is_some_and(|other| !k.stands_before(other));
     Found { found, place }
 }
 
@@ -53,59 +31,38 @@ fn not_after<K: Ordered>(keys: &[K], k: &K) -> usize
     ensures within { result ≤ length keys.now }
     ensures count { Ascending K.Ordered.before keys.now → result ≡ not_after K.Ordered.before k.now keys.now }
 {
-    let spot = locate(keys, k);
-    if spot.found {
-        spot.place + 1
-    } else {
-        spot.place
-    }
+    let Found { found, place } = locate(keys, k);
+    place + usize::from(found)
 }
 
-/// The value of a key among the items of a frame; None where the frame lies out of range.
-pub fn find<K: Ordered>(
-    keys: &[K],
-    values: &[u64],
-    frame: usize,
-    size: usize,
-    k: &K,
-) -> Option<Option<u64>>
-    ensures { Kept (found_in_frame K.Ordered.before k.now keys.now values.now frame size) result }
-{
-    let Some(from) = start(keys, values, frame) else {
-        return None;
-    };
-    if size > 64 {
-        return None;
+impl<K: Ordered> Items<'_, K> {
+    /// The value of a key among the items of a frame; None where the frame lies out of range.
+    // Two Options: a frame out of range, and a key that is not there.
+    pub fn find(&self, frame: usize, size: usize, k: &K) -> Option<Option<u64>>
+        ensures { Kept (found_in_frame K.Ordered.before k.now self.now.keys.now self.now.values.now frame size) result }
+    {
+        let from = self.start(frame)?;
+        if size > PLACES {
+            return None;
+        }
+        let spot = locate(&self.keys[from..from + size], k);
+        Some(spot.found.then(|| self.values[from + spot.place]))
     }
-    let spot = locate(&keys[from..from + size], k);
-    if spot.found {
-        Some(peek(values, from + spot.place))
-    } else {
-        Some(None)
-    }
-}
 
-/// What the items of a root's frame say of a key; None where the frame lies out of range or has no item.
-pub fn separators<K: Ordered>(
-    keys: &[K],
-    values: &[u64],
-    frame: usize,
-    size: usize,
-    k: &K,
-) -> Option<Separators<K>>
-    ensures { Kept (separators_in_frame K.Ordered.before k.now keys.now values.now frame size) result }
-{
-    let Some(from) = start(keys, values, frame) else {
-        return None;
-    };
-    if size == 0 || size > 64 {
-        return None;
+    /// What the items of a root's frame say of a key; None where the frame lies out of range or has no item.
+    pub fn separators(&self, frame: usize, size: usize, k: &K) -> Option<Separators<K>>
+        ensures { Kept (separators_in_frame K.Ordered.before k.now self.now.keys.now self.now.values.now frame size) result }
+    {
+        let from = self.start(frame)?;
+        if size == 0 || size > PLACES {
+            return None;
+        }
+        let others = from + 1;
+        let count = not_after(&self.keys[others..from + size], k);
+        let best = self.before(others, others + count);
+        Some(Separators {
+            first: self.values[from],
+            best,
+        })
     }
-    let others = from + 1;
-    let count = not_after(&keys[others..from + size], k);
-    let best = item_before(keys, values, others, others + count);
-    Some(Separators {
-        first: values[from],
-        best,
-    })
 }

@@ -5,8 +5,8 @@
 pub mod access;
 pub mod build;
 pub mod chain;
-pub mod frame;
 pub mod halving;
+pub mod items;
 pub mod merge;
 pub mod node;
 pub mod scan;

@@ -1,16 +1,29 @@
 ghost use Rattle.std.specs.Prelude.{◌≡◌};
-ghost use Rattle.nodes.specs.Build.{Promised};
-ghost use Rattle.nodes.specs.Chains.{deltas_from};
-ghost use Rattle.nodes.specs.Merge.{chosen, filled, from_frame, keys_after, picked, place_after, receded, renewed, turned_cursor, turned_keys, turned_values, values_after};
+ghost use Rattle.nodes.specs.Build.{SameItems, arrays_of, Promised};
+ghost use Rattle.nodes.specs.Chains.{deltas_of};
+ghost use Rattle.nodes.specs.Merge.{Turned, chosen, from_chain, from_frame, keys_after, merged, place_after, receded, renewed, values_after};
 
-use crate::access::poke;
-use crate::frame::item_before;
-use crate::node::{Head, Item, Record};
-use crate::scan::{Seen, fits, scan};
+use crate::chain::Chain;
+use crate::items::ItemsMut;
+use crate::node::Item;
+use crate::scan::{Edit, Seen, fits, scan};
 use keys::order::Ordered;
 
-/// What a merge takes next: a key, its value or that it is gone, and whether it stands in the frame and in the chain.
+/// What is merged, and where it goes: the edits of a chain and the items at places `start` to `stop - 1`, into places
+/// `floor` to `top - 1`.
+// No equality: a view of lent memory is never compared.
 #[derive(Clone, Copy)]
+pub(crate) struct Merge<'a, K> {
+    pub chain: Chain<'a, K>,
+    pub start: usize,
+    pub stop: usize,
+    pub floor: usize,
+    pub top: usize,
+}
+
+/// What a merge takes next: a key, its value or that it is gone, and whether it stands in the frame and in the chain.
+// Two flags, not an enum: a key may stand in both, and each side moves on by its own flag.
+#[derive(Clone, Copy, Debug, PartialEq, Eq)]
 pub struct Pick<K> {
     pub key: K,
     pub value: Option<u64>,
@@ -20,7 +33,7 @@ pub struct Pick<K> {
 
 /// How far down a merge has come: the place past the frame's next item, the place past the next one to fill, and what
 /// the chain has next.
-#[derive(Clone, Copy)]
+#[derive(Clone, Copy, Debug, PartialEq, Eq)]
 pub struct Cursor<K> {
     pub frame: usize,
     pub target: usize,
@@ -31,16 +44,23 @@ pub struct Cursor<K> {
 fn take_item<K: Ordered>(item: Item<K>, limit: Option<K>) -> Pick<K>
     ensures { result ≡ from_frame K.Ordered.before item limit }
 {
-    let value = if fits(&item.key, limit) {
-        Some(item.value)
-    } else {
-        None
-    };
     Pick {
         key: item.key,
-        value,
+        value: fits(&item.key, limit).then_some(item.value),
         frame: true,
         chain: false,
+    }
+}
+
+/// The chain's edit is taken, with the frame's item where that has its key.
+fn take_edit<K: Ordered>(edit: Edit<K>, both: bool) -> Pick<K>
+    ensures { result ≡ from_chain K.Ordered.before edit both }
+{
+    Pick {
+        key: edit.key,
+        value: edit.value,
+        frame: both,
+        chain: true,
     }
 }
 
@@ -48,58 +68,17 @@ fn take_item<K: Ordered>(item: Item<K>, limit: Option<K>) -> Pick<K>
 fn choose<K: Ordered>(item: Option<Item<K>>, seen: Seen<K>) -> Option<Pick<K>>
     ensures { result ≡ chosen K.Ordered.before item seen.limit seen.next }
 {
-    let limit = seen.limit;
-    let next = seen.next;
-    match item {
-        None => match next {
-            None => None,
-            Some(edit) => Some(Pick {
-                key: edit.key,
-                value: edit.value,
-                frame: false,
-                chain: true,
-            }),
-        },
-        Some(item) => match next {
-            None => Some(take_item(item, limit)),
-            Some(edit) => {
-                if edit.key.stands_before(&item.key) {
-                    Some(take_item(item, limit))
-                } else {
-                    Some(Pick {
-                        key: edit.key,
-                        value: edit.value,
-                        frame: !item.key.stands_before(&edit.key),
-                        chain: true,
-                    })
-                }
+    match (item, seen.next) {
+        (None, None) => None,
+        (Some(item), None) => Some(take_item(item, seen.limit)),
+        (None, Some(edit)) => Some(take_edit(edit, false)),
+        (Some(item), Some(edit)) => {
+            if edit.key.stands_before(&item.key) {
+                Some(take_item(item, seen.limit))
+            } else {
+                Some(take_edit(edit, !item.key.stands_before(&edit.key)))
             }
-        },
-    }
-}
-
-/// Places an item, if there is one, before a place, down to `floor`.
-fn place<K: Copy>(
-    keys: &mut [K],
-    values: &mut [u64],
-    floor: usize,
-    at: usize,
-    key: K,
-    value: Option<u64>,
-) -> usize
-    ensures next { result ≡ place_after floor at value }
-    ensures keys { keys.new ≡ keys_after keys.old floor at key value }
-    ensures values { values.new ≡ values_after values.old floor at value }
-{
-    let Some(number) = value else {
-        return at;
-    };
-    if floor < at {
-        poke(keys, at - 1, key);
-        poke(values, at - 1, number);
-        at - 1
-    } else {
-        at
+        }
     }
 }
 
@@ -107,86 +86,65 @@ fn place<K: Copy>(
 fn recede(at: usize, taken: bool) -> usize
     ensures { result ≡ receded at taken }
 {
-    if taken {
-        if at > 0 { at - 1 } else { at }
-    } else {
-        at
-    }
+    at.saturating_sub(usize::from(taken))
 }
 
 /// A new pass over the chain, if its edit was taken.
-fn renew<K: Ordered>(
-    records: &[Record<K>],
-    head: Head,
-    depth: usize,
-    key: K,
-    taken: bool,
-    seen: Seen<K>,
-) -> Seen<K>
-    ensures { result ≡ renewed K.Ordered.before (deltas_from depth records.now head) key taken seen }
+// A flag, as the pick has one for each side.
+fn renew<K: Ordered>(chain: Chain<K>, key: K, taken: bool, seen: Seen<K>) -> Seen<K>
+    ensures { result ≡ renewed K.Ordered.before (deltas_of chain.entry) key taken seen }
 {
-    if taken {
-        scan(records, head, depth, Some(key))
-    } else {
-        seen
+    if taken { scan(chain, Some(key)) } else { seen }
+}
+
+impl<K: Ordered> ItemsMut<'_, K> {
+    /// Places what was picked, if it has a value, before a place, down to `floor`; the next place.
+    fn place(&mut self, floor: usize, at: usize, pick: Pick<K>) -> usize
+        ensures same { SameItems self.old self.new }
+        ensures next { result ≡ place_after floor at pick.value }
+        ensures keys { self.new.keys.now ≡ keys_after self.old.keys.now floor at pick.key pick.value }
+        ensures values { self.new.values.now ≡ values_after self.old.values.now floor at pick.value }
+    {
+        match pick.value {
+            Some(value) if floor < at => {
+                // By field: with a struct pattern over a generic key the function is left unproved.
+                let key = pick.key;
+                self.put(at - 1, Item { key, value });
+                at - 1
+            }
+            _ => at,
+        }
     }
-}
 
-/// One turn of a merge.
-fn turn<K: Ordered>(
-    records: &[Record<K>],
-    keys: &mut [K],
-    values: &mut [u64],
-    head: Head,
-    depth: usize,
-    start: usize,
-    floor: usize,
-    cursor: Cursor<K>,
-) -> Option<Cursor<K>>
-    ensures cursor { result ≡ turned_cursor K.Ordered.before (deltas_from depth records.now head) floor cursor (picked K.Ordered.before keys.old values.old start cursor) }
-    ensures keys { keys.new ≡ turned_keys K.Ordered.before keys.old floor cursor.target (picked K.Ordered.before keys.old values.old start cursor) }
-    ensures values { values.new ≡ turned_values K.Ordered.before values.old floor cursor.target (picked K.Ordered.before keys.old values.old start cursor) }
-{
-    let here = item_before(keys, values, start, cursor.frame);
-    let seen = cursor.seen;
-    let Some(pick) = choose(here, seen) else {
-        return None;
-    };
-    let key = pick.key;
-    let target = place(keys, values, floor, cursor.target, key, pick.value);
-    let frame = recede(cursor.frame, pick.frame);
-    let seen = renew(records, head, depth, key, pick.chain, seen);
-    Some(Cursor {
-        frame,
-        target,
-        seen,
-    })
-}
+    /// One turn of a merge.
+    fn turn(&mut self, merge: Merge<K>, cursor: Cursor<K>) -> Option<Cursor<K>>
+        ensures same { SameItems self.old self.new }
+        ensures turned { Turned K.Ordered.before merge.entry cursor self.old self.new result }
+    {
+        let pick = choose(self.read().before(merge.start, cursor.frame), cursor.seen)?;
+        let target = self.place(merge.floor, cursor.target, pick);
+        Some(Cursor {
+            frame: recede(cursor.frame, pick.frame),
+            target,
+            seen: renew(merge.chain, pick.key, pick.chain, cursor.seen),
+        })
+    }
 
-/// Merges the items at places `start` to `stop - 1` with the edits of a chain, and fills the places from `top - 1` down
-/// to `floor` with the last items of the replay, the last one first.
-pub(crate) fn fill<K: Ordered>(
-    records: &[Record<K>],
-    keys: &mut [K],
-    values: &mut [u64],
-    head: Head,
-    depth: usize,
-    start: usize,
-    stop: usize,
-    floor: usize,
-    top: usize,
-)
-    ensures { Promised (filled K.Ordered.before (deltas_from depth records.now head) keys.old values.old start stop floor top) (record { keys = keys.new; values = values.new }) }
-{
-    let mut cursor: Cursor<K> = Cursor {
-        frame: stop,
-        target: top,
-        seen: scan(records, head, depth, None),
-    };
-    while floor < cursor.target {
-        let Some(next) = turn(records, keys, values, head, depth, start, floor, cursor) else {
-            return;
+    /// Fills the places of a merge from the last one down with the last items of the replay, the last one first.
+    pub(crate) fn fill(&mut self, merge: Merge<K>)
+        ensures same { SameItems self.old self.new }
+        ensures filled { Promised (merged K.Ordered.before merge.entry self.old) (arrays_of self.new) }
+    {
+        let mut cursor = Cursor {
+            frame: merge.stop,
+            target: merge.top,
+            seen: scan(merge.chain, None),
         };
-        cursor = next;
+        // No iterator: a turn writes the items that the next one reads.
+        while merge.floor < cursor.target
+            && let Some(next) = self.turn(merge, cursor)
+        {
+            cursor = next;
+        }
     }
 }

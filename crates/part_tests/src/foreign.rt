@@ -2,12 +2,11 @@
 
 use crate::memory::{Memory, answers, phases, seat, stepped};
 use crate::samples::{attributes, expiry, record};
-use bwtree::answer::Answer;
+use bwtree::answer::{Answer, Refusal};
 use bwtree::seat::{Phase, Request};
 use keys::expiry::Expiry;
 use nodes::node::{Frame, FrameState, Head, Kind, Slot};
 use std::process::Abort;
-use std::test::Fail;
 
 /// The slots in use hold the head and all records stand on it, and all chains claim this size and this depth. There
 /// is a free slot, a free frame, and two free records, so that a build goes on to its chain.
@@ -39,29 +38,20 @@ fn nonsense(request: Request<Expiry>, head: Head, size: usize, depth: usize) -> 
     }
 }
 
+// Letters, so that the answers of nine steps stand in one word of a table.
 /// G for going, E for an ending, I for the refusal of an impossible memory, - for any other answer.
-fn letter(answer: Answer) -> u8 {
+fn letter(answer: Result<Answer, Refusal>) -> u8 {
     match answer {
-        Answer::Begun => b'-',
-        Answer::Going => b'G',
-        Answer::Ended(_) => b'E',
-        Answer::Reported(_) => b'-',
-        Answer::Refused(refusal) => { if refusal.number() == 15 { b'I' } else { b'-' } }
+        Ok(Answer::Going) => b'G',
+        Ok(Answer::Ended(_)) => b'E',
+        Err(refusal) if u8::from(refusal) == 15 => b'I',
+        _ => b'-',
     }
-}
-
-/// The letters of root read, root walk, leaf read, leaf walk, build, swap, split swap, post read and post swap.
-fn letters(answers: [Answer; 9]) -> [u8; 9] {
-    let mut letters = [b'-'; 9];
-    for i in 0..9 {
-        letters[i] = letter(answers[i]);
-    }
-    letters
 }
 
 /// The letters of the nine steps on a memory of nonsense, with all numbers this one.
 fn row(request: Request<Expiry>, head: Head, size: usize, depth: usize, number: usize) -> [u8; 9] {
-    letters(answers(&nonsense(request, head, size, depth), head, number))
+    answers(&nonsense(request, head, size, depth), head, number).map(letter)
 }
 
 #[test]
@@ -111,9 +101,9 @@ fn foreign_memory_is_refused(rt: HostRuntime) {
 fn check_steps(rt: &impl Abort, memory: &Memory, head: Head, number: usize) {
     let direct = answers(memory, head, number);
     let phases = phases(head, number);
-    for i in 0..9 {
-        assert_ne!(rt; letter(direct[i]), b'-');
-        assert_eq!(rt; letter(stepped(memory, 0, phases[i])), letter(direct[i]));
+    for (answer, phase) in direct.into_iter().zip(phases) {
+        assert_ne!(rt; letter(answer), b'-');
+        assert_eq!(rt; letter(stepped(memory, 0, phase)), letter(answer));
     }
 }
 
@@ -134,7 +124,7 @@ fn every_step_ends_on_foreign_memory(rt: HostRuntime) {
         Head::Record(0),
         Head::Frame(0),
     ];
-    let sizes: [usize; 4] = [0, 64, 65, 0xffff_ffff_ffff_ffff];
+    let sizes: [usize; 4] = [0, 64, 65, usize::MAX];
     for request in requests {
         for head in heads {
             for size in sizes {
@@ -146,15 +136,8 @@ fn every_step_ends_on_foreign_memory(rt: HostRuntime) {
 }
 
 #[test]
-fn step_refuses_a_seat_that_is_idle_or_not_there(rt: HostRuntime) -> Result<(), Fail> {
+fn step_refuses_a_seat_that_is_idle_or_not_there(rt: HostRuntime) {
     let memory = nonsense(Request::Lookup(expiry(1)), Head::Frame(0), 1, 0);
-    let Answer::Refused(idle) = stepped(&memory, 0, Phase::Idle) else {
-        return Err(Fail::new("not refused"));
-    };
-    assert_eq!(rt; idle.number(), 3);
-    let Answer::Refused(absent) = stepped(&memory, 4, Phase::Idle) else {
-        return Err(Fail::new("not refused"));
-    };
-    assert_eq!(rt; absent.number(), 1);
-    Ok(())
+    assert_eq!(rt; stepped(&memory, 0, Phase::Idle).map_err(u8::from), Err(3));
+    assert_eq!(rt; stepped(&memory, 4, Phase::Idle).map_err(u8::from), Err(1));
 }

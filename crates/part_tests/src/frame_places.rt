@@ -2,18 +2,16 @@
 
 use crate::samples::{expiry, token};
 use keys::token::Token;
-use nodes::frame::Separators;
-use nodes::halving::{find, locate, separators};
+use nodes::halving::{Found, locate};
+use nodes::items::{Items, Separators};
 
 #[test]
 fn locate_tells_the_place(rt: HostRuntime) {
     let keys = [token(10), token(20), token(30)];
-    let there = locate(&keys, &token(20));
-    assert!(rt; there.found && there.place == 1);
-    let between = locate(&keys, &token(25));
-    assert!(rt; !between.found && between.place == 2);
-    let past = locate(&keys, &token(40));
-    assert!(rt; !past.found && past.place == 3);
+    let at = |found, place| Found { found, place };
+    assert_eq!(rt; locate(&keys, &token(20)), at(true, 1));
+    assert_eq!(rt; locate(&keys, &token(25)), at(false, 2));
+    assert_eq!(rt; locate(&keys, &token(40)), at(false, 3));
 }
 
 #[test]
@@ -24,23 +22,21 @@ fn find_reads_its_frame(rt: HostRuntime) {
     keys[65] = expiry(20);
     values[64] = 1;
     values[65] = 2;
+    let items = Items {
+        keys: &keys,
+        values: &values,
+    };
     let twenty = expiry(20);
-    assert_eq!(rt; find(&keys, &values, 1, 2, &twenty), Some(Some(2)));
-    assert_eq!(rt; find(&keys, &values, 1, 2, &expiry(15)), Some(None));
-    assert_eq!(rt; find(&keys, &values, 1, 1, &twenty), Some(None));
-    assert_eq!(rt; find(&keys, &values, 2, 2, &twenty), None);
-    assert_eq!(rt; find(&keys, &values, 1, 65, &twenty), None);
+    assert_eq!(rt; items.find(1, 2, &twenty), Some(Some(2)));
+    assert_eq!(rt; items.find(1, 2, &expiry(15)), Some(None));
+    assert_eq!(rt; items.find(1, 1, &twenty), Some(None));
+    assert_eq!(rt; items.find(2, 2, &twenty), None);
+    assert_eq!(rt; items.find(1, 65, &twenty), None);
 }
 
 /// The first slot and the slot of the best separator, if there is one.
 fn slots(found: Option<Separators<Token>>) -> Option<(u64, Option<u64>)> {
-    let Some(separators) = found else {
-        return None;
-    };
-    match separators.best {
-        None => Some((separators.first, None)),
-        Some(item) => Some((separators.first, Some(item.value))),
-    }
+    found.map(|found| (found.first, found.best.map(|item| item.value)))
 }
 
 #[test]
@@ -53,12 +49,16 @@ fn separators_leave_the_first_key_uncompared(rt: HostRuntime) {
     values[0] = 4;
     values[1] = 5;
     values[2] = 6;
-    let between = separators(&keys, &values, 0, 3, &token(15));
+    let items = Items {
+        keys: &keys,
+        values: &values,
+    };
+    let between = items.separators(0, 3, &token(15));
     assert_eq!(rt; slots(between), Some((4, Some(5))));
-    let equal = separators(&keys, &values, 0, 3, &token(20));
+    let equal = items.separators(0, 3, &token(20));
     assert_eq!(rt; slots(equal), Some((4, Some(6))));
-    let before = separators(&keys, &values, 0, 3, &token(5));
+    let before = items.separators(0, 3, &token(5));
     assert_eq!(rt; slots(before), Some((4, None)));
-    let in_none = separators(&keys, &values, 0, 0, &token(5));
+    let in_none = items.separators(0, 0, &token(5));
     assert_eq!(rt; slots(in_none), None);
 }

@@ -1,8 +1,7 @@
 //! What is taken and freed, and the waits before.
 
-use crate::samples::{frame, record};
+use crate::samples::{expiry, frame, record};
 use keys::expiry::Expiry;
-use nodes::access::peek;
 use nodes::node::{Frame, FrameState, Head, Kind, Record, Slot};
 use pool::free::{free_chain, next_free, other_free};
 use pool::waits::{leave, retire};
@@ -36,17 +35,7 @@ fn other_free_is_another(rt: HostRuntime) {
 
 /// A record of an expiry key on this head.
 fn on(next: Head) -> Record<Expiry> {
-    record(
-        Kind::Insertion,
-        Expiry {
-            second: 1,
-            serial: 1,
-        },
-        1,
-        next,
-        1,
-        1,
-    )
+    record(Kind::Insertion, expiry(1), 1, next, 1, 1)
 }
 
 /// A chain of three records on a frame, and a fourth record on this head.
@@ -60,17 +49,12 @@ fn three_on_a_frame(fourth: Head) -> [Record<Expiry>; 4] {
 }
 
 /// Which of the four are free.
-fn free_among(records: &[Record<Expiry>; 4]) -> (bool, bool, bool, bool) {
-    (
-        records[0].free,
-        records[1].free,
-        records[2].free,
-        records[3].free,
-    )
+fn free_among(records: &[Record<Expiry>; 4]) -> [bool; 4] {
+    records.map(|record| record.free)
 }
 
 /// What is free once so many are freed from a head on.
-fn freed(fourth: Head, head: Head, count: usize) -> (bool, bool, bool, bool) {
+fn freed(fourth: Head, head: Head, count: usize) -> [bool; 4] {
     let mut records = three_on_a_frame(fourth);
     free_chain(&mut records, head, count);
     free_among(&records)
@@ -81,25 +65,25 @@ fn free_chain_frees_down_to_its_end(rt: HostRuntime) {
     let frame = Head::Frame(0);
     assert_eq!(rt;
         freed(frame, Head::Record(2), 9),
-        (true, true, true, false),
+        [true, true, true, false],
         "it stops at the frame"
     );
     assert_eq!(rt;
         freed(frame, Head::Record(2), 2),
-        (false, true, true, false),
+        [false, true, true, false],
         "it stops at its count"
     );
     assert_eq!(rt;
         freed(Head::Record(4), Head::Record(3), 9),
-        (false, false, false, true),
+        [false, false, false, true],
         "it stops at a number out of range"
     );
     assert_eq!(rt;
         freed(Head::Record(3), Head::Record(3), 9),
-        (false, false, false, true),
+        [false, false, false, true],
         "it ends on a cycle"
     );
-    assert_eq!(rt; freed(frame, frame, 9), (false, false, false, false));
+    assert_eq!(rt; freed(frame, frame, 9), [false, false, false, false]);
 }
 
 #[test]
@@ -114,16 +98,9 @@ fn a_freed_record_is_taken_next(rt: HostRuntime) {
     );
 }
 
-/// Whether a frame is free, and whether it waits.
-fn free_or_waiting(frames: &[Frame<Expiry>], number: usize) -> Option<(bool, bool)> {
-    let Some(frame) = peek(frames, number) else {
-        return None;
-    };
-    match frame.state {
-        FrameState::Free => Some((true, false)),
-        FrameState::Used => Some((false, false)),
-        FrameState::Waiting { .. } => Some((false, true)),
-    }
+/// Whether a frame waits with its chain.
+fn waits(frame: &Frame<Expiry>) -> bool {
+    matches!(frame.state, FrameState::Waiting { .. })
 }
 
 #[test]
@@ -137,18 +114,14 @@ fn a_chain_that_waits_for_one_seat(rt: HostRuntime) {
         2,
         [false, true, false, false],
     );
-    assert_eq!(rt; free_or_waiting(&frames, 0), Some((false, true)));
+    assert!(rt; waits(&frames[0]));
     leave(&mut records, &mut frames, 0);
-    assert_eq!(rt;
-        free_or_waiting(&frames, 0),
-        Some((false, true)),
-        "not the seat it waits for"
-    );
-    assert_eq!(rt; free_among(&records), (false, false, false, false));
+    assert!(rt; waits(&frames[0]), "not the seat it waits for");
+    assert_eq!(rt; free_among(&records), [false, false, false, false]);
     leave(&mut records, &mut frames, 1);
-    assert_eq!(rt; free_or_waiting(&frames, 0), Some((true, false)));
-    assert_eq!(rt; free_or_waiting(&frames, 1), Some((false, false)));
-    assert_eq!(rt; free_among(&records), (true, true, false, false));
+    assert_eq!(rt; frames[0].state, FrameState::Free);
+    assert_eq!(rt; frames[1].state, FrameState::Used);
+    assert_eq!(rt; free_among(&records), [true, true, false, false]);
     assert_eq!(rt; next_free(&frames, 1), Some(0));
 }
 
@@ -164,11 +137,11 @@ fn a_chain_that_waits_for_two_seats(rt: HostRuntime) {
         [true, false, false, true],
     );
     leave(&mut records, &mut frames, 3);
-    assert_eq!(rt; free_or_waiting(&frames, 0), Some((false, true)));
-    assert_eq!(rt; free_among(&records), (false, false, false, false));
+    assert!(rt; waits(&frames[0]));
+    assert_eq!(rt; free_among(&records), [false, false, false, false]);
     leave(&mut records, &mut frames, 0);
-    assert_eq!(rt; free_or_waiting(&frames, 0), Some((true, false)));
-    assert_eq!(rt; free_among(&records), (true, true, true, false));
+    assert_eq!(rt; frames[0].state, FrameState::Free);
+    assert_eq!(rt; free_among(&records), [true, true, true, false]);
 }
 
 #[test]
@@ -188,8 +161,8 @@ fn nothing_is_freed_twice(rt: HostRuntime) {
     leave(&mut records, &mut frames, 0);
     assert_eq!(rt;
         free_among(&records),
-        (true, false, true, false),
+        [true, false, true, false],
         "taken again, it stays"
     );
-    assert_eq!(rt; free_or_waiting(&frames, 0), Some((false, false)));
+    assert_eq!(rt; frames[0].state, FrameState::Used);
 }

@@ -11,6 +11,7 @@ mod foreign;
 mod frame_places;
 #[cfg(test)]
 mod frees;
+pub mod lending;
 #[cfg(test)]
 mod memory;
 #[cfg(test)]

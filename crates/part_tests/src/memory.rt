@@ -1,18 +1,16 @@
 //! A small memory, and the nine steps on copies of it.
 
-use bwtree::answer::Answer;
-use bwtree::build::build;
-use bwtree::leaf_walk::leaf_walk;
-use bwtree::reads::{leaf_read, root_read};
-use bwtree::root_walk::root_walk;
+use bwtree::answer::{Answer, Refusal};
+use bwtree::memory::LentMemory;
 use bwtree::seat::{Cursors, Phase, Request, Seat};
 use bwtree::sizes::Sizes;
-use bwtree::step::step;
-use bwtree::swap::{post_read, post_swap, split_swap, swap};
+use bwtree::taking::Taken;
+use bwtree::turn::Turn;
 use keys::expiry::Expiry;
 use nodes::node::{Frame, Head, Record, Slot};
 
 /// All that a step is lent.
+// Keys beside values, as they are lent. No equality: the tests compare parts.
 #[derive(Clone, Copy)]
 pub struct Memory {
     pub slots: [Slot; 3],
@@ -23,7 +21,7 @@ pub struct Memory {
     pub seats: [Seat<Expiry>; 4],
 }
 
-pub fn seat(request: Request<Expiry>, phase: Phase) -> Seat<Expiry> {
+pub fn seat<K: Copy>(request: Request<K>, phase: Phase) -> Seat<K> {
     Seat {
         request,
         phase,
@@ -37,75 +35,73 @@ pub fn seat(request: Request<Expiry>, phase: Phase) -> Seat<Expiry> {
     }
 }
 
-/// Calls a step for the first seat on a copy of a memory.
-macro_rules! on_copy {
-    ($step:ident, $memory:expr $(, $word:expr)*) => {{
-        let mut copy = *$memory;
-        let it = copy.seats[0];
-        $step(
-            &mut copy.slots,
-            &mut copy.records,
-            &mut copy.frames,
-            &mut copy.keys,
-            &mut copy.values,
-            &mut copy.seats,
-            0,
-            it
-            $(, $word)*
-        )
-    }};
+impl Memory {
+    /// The memory, lent to a step.
+    pub fn lend(&mut self) -> LentMemory<'_, Expiry> {
+        let Memory {
+            slots,
+            records,
+            frames,
+            keys,
+            values,
+            seats,
+        } = self;
+        LentMemory {
+            slots,
+            records,
+            frames,
+            keys,
+            values,
+            seats,
+        }
+    }
 }
 
-fn on_root_read(memory: &Memory) -> Answer {
-    on_copy!(root_read, memory)
-}
-
-fn on_root_walk(memory: &Memory, head: Head, number: usize) -> Answer {
-    on_copy!(root_walk, memory, head, Some(number))
-}
-
-fn on_leaf_read(memory: &Memory, number: usize) -> Answer {
-    on_copy!(leaf_read, memory, number)
-}
-
-fn on_leaf_walk(memory: &Memory, head: Head, number: usize) -> Answer {
-    on_copy!(leaf_walk, memory, number, head, head)
-}
-
-fn on_build(memory: &Memory, head: Head, number: usize) -> Answer {
-    on_copy!(build, memory, number, head)
-}
-
-fn on_swap(memory: &Memory, head: Head, number: usize) -> Answer {
-    on_copy!(swap, memory, number, head, head)
-}
-
-fn on_split_swap(memory: &Memory, head: Head, number: usize) -> Answer {
-    on_copy!(
-        split_swap, memory, number, head, number, number, number, number
-    )
-}
-
-fn on_post_read(memory: &Memory, number: usize) -> Answer {
-    on_copy!(post_read, memory, number, number, number)
-}
-
-fn on_post_swap(memory: &Memory, head: Head, number: usize) -> Answer {
-    on_copy!(post_swap, memory, head, number, number, number)
+/// What a step answers the first seat on a copy of a memory.
+fn on_copy<F: FnOnce(&mut LentMemory<'_, Expiry>, Turn<Expiry>) -> Result<Answer, Refusal>>(
+    memory: &Memory,
+    step: F,
+) -> Result<Answer, Refusal>
+    requires { F.IsAlwaysCallable step }
+{
+    let mut copy = *memory;
+    let seat = copy.seats[0];
+    step(&mut copy.lend(), Turn { number: 0, seat })
 }
 
 /// What the nine steps answer, each on a copy of the memory, where every head and every number is this one.
-pub fn answers(memory: &Memory, head: Head, number: usize) -> [Answer; 9] {
+pub fn answers(memory: &Memory, head: Head, number: usize) -> [Result<Answer, Refusal>; 9] {
+    let taken = Taken {
+        split: number,
+        separator: number,
+        frame: number,
+        target: number,
+    };
     [
-        on_root_read(memory),
-        on_root_walk(memory, head, number),
-        on_leaf_read(memory, number),
-        on_leaf_walk(memory, head, number),
-        on_build(memory, head, number),
-        on_swap(memory, head, number),
-        on_split_swap(memory, head, number),
-        on_post_read(memory, number),
-        on_post_swap(memory, head, number),
+        on_copy(memory, |lent, turn| lent.root_read(turn)),
+        on_copy(
+            memory,
+            |lent, turn| lent.root_walk(turn, head, Some(number)),
+        ),
+        on_copy(memory, |lent, turn| lent.leaf_read(turn, number)),
+        on_copy(
+            memory,
+            |lent, turn| lent.leaf_walk(turn, number, head, head),
+        ),
+        on_copy(memory, |lent, turn| lent.build(turn, number, head)),
+        on_copy(memory, |lent, turn| lent.swap(turn, number, head, head)),
+        on_copy(
+            memory,
+            |lent, turn| lent.split_swap(turn, number, head, taken),
+        ),
+        on_copy(
+            memory,
+            |lent, turn| lent.post_read(turn, number, number, number),
+        ),
+        on_copy(
+            memory,
+            |lent, turn| lent.post_swap(turn, head, number, number, number),
+        ),
     ]
 }
 
@@ -155,21 +151,13 @@ pub fn phases(head: Head, number: usize) -> [Phase; 9] {
 }
 
 /// What `step` answers a seat on a copy of the memory, where the first seat has this phase.
-pub fn stepped(memory: &Memory, seat: usize, phase: Phase) -> Answer {
+pub fn stepped(memory: &Memory, seat: usize, phase: Phase) -> Result<Answer, Refusal> {
     let mut copy = *memory;
     copy.seats[0].phase = phase;
-    step(
-        Sizes {
-            slots: 3,
-            records: 4,
-            frames: 2,
-        },
-        &mut copy.slots,
-        &mut copy.records,
-        &mut copy.frames,
-        &mut copy.keys,
-        &mut copy.values,
-        &mut copy.seats,
-        seat,
-    )
+    let sizes = Sizes {
+        slots: 3,
+        records: 4,
+        frames: 2,
+    };
+    copy.lend().step(sizes, seat)
 }

@@ -4,11 +4,11 @@ use bwtree::answer::{End, Refusal};
 
 #[test]
 fn refusals_have_their_numbers(rt: HostRuntime) {
-    assert_eq!(rt; Refusal::NoSuchSeat.number(), 1);
-    assert_eq!(rt; Refusal::SeatOpen.number(), 2);
-    assert_eq!(rt; Refusal::SeatIdle.number(), 3);
-    assert_eq!(rt; Refusal::WrongSizes.number(), 4);
-    assert_eq!(rt; Refusal::Impossible.number(), 15);
+    assert_eq!(rt; u8::from(Refusal::NoSuchSeat), 1);
+    assert_eq!(rt; u8::from(Refusal::SeatOpen), 2);
+    assert_eq!(rt; u8::from(Refusal::SeatIdle), 3);
+    assert_eq!(rt; u8::from(Refusal::WrongSizes), 4);
+    assert_eq!(rt; u8::from(Refusal::Impossible), 15);
 }
 
 #[test]

@@ -1,10 +1,11 @@
 //! A step with token keys: the same functions serve every kind of key.
 
+use crate::memory::seat;
 use crate::samples::{attributes, record, token};
 use bwtree::answer::Answer;
-use bwtree::seat::{Cursors, Phase, Request, Seat};
+use bwtree::memory::LentMemory;
+use bwtree::seat::{Phase, Request};
 use bwtree::sizes::Sizes;
-use bwtree::step::step;
 use nodes::node::{Frame, FrameState, Head, Kind, Slot};
 use std::test::Fail;
 
@@ -19,37 +20,27 @@ fn a_lookup_of_a_token_ends_at_its_record(rt: HostRuntime) -> Result<(), Fail> {
     }; 2];
     let mut keys = [token(5); 128];
     let mut values = [0; 128];
-    let mut seats = [Seat {
-        request: Request::Lookup(token(5)),
-        phase: Phase::LeafWalk {
-            slot: 1,
-            snapshot: head,
-            at: head,
-        },
-        cursors: Cursors {
-            records: 0,
-            frames: 0,
-            slots: 0,
-        },
-        installed: 0,
-        failed: 0,
-    }; 4];
+    let walk = Phase::LeafWalk {
+        slot: 1,
+        snapshot: head,
+        at: head,
+    };
+    let mut seats = [seat(Request::Lookup(token(5)), walk); 4];
     let sizes = Sizes {
         slots: 2,
         records: 1,
         frames: 2,
     };
-    let answer = step(
-        sizes,
-        &mut slots,
-        &mut records,
-        &mut frames,
-        &mut keys,
-        &mut values,
-        &mut seats,
-        0,
-    );
-    let Answer::Ended(ending) = answer else {
+    let mut memory = LentMemory {
+        slots: &mut slots,
+        records: &mut records,
+        frames: &mut frames,
+        keys: &mut keys,
+        values: &mut values,
+        seats: &mut seats,
+    };
+    // With a text of its own: `?` would not say which part is another.
+    let Ok(Answer::Ended(ending)) = memory.step(sizes, 0) else {
         return Err(Fail::new("the lookup did not end"));
     };
     assert_eq!(rt; ending.value, 9);

@@ -1,10 +1,11 @@
 //! One step of a leaf walk at each kind of node.
+// The tests take an answer apart with a text of their own: `?` would not say which part is another.
 
 use crate::memory::{Memory, seat};
 use crate::samples::{expiry, frame, record};
-use bwtree::answer::{Answer, End};
-use bwtree::leaf_walk::leaf_walk;
+use bwtree::answer::{Answer, End, Refusal};
 use bwtree::seat::{Phase, Request};
+use bwtree::turn::Turn;
 use keys::expiry::Expiry;
 use nodes::node::{Head, Kind, Record, Slot};
 use std::test::Fail;
@@ -41,9 +42,9 @@ fn leaf() -> Memory {
 }
 
 /// One step of the first seat's walk on the leaf's chain.
-fn walk(memory: &mut Memory, request: Request<Expiry>, at: Head) -> Answer {
+fn walk(memory: &mut Memory, request: Request<Expiry>, at: Head) -> Result<Answer, Refusal> {
     let snapshot = Head::Record(2);
-    let it = seat(
+    let seat = seat(
         request,
         Phase::LeafWalk {
             slot: 1,
@@ -51,25 +52,15 @@ fn walk(memory: &mut Memory, request: Request<Expiry>, at: Head) -> Answer {
             at,
         },
     );
-    memory.seats[0] = it;
-    leaf_walk(
-        &mut memory.slots,
-        &mut memory.records,
-        &mut memory.frames,
-        &mut memory.keys,
-        &mut memory.values,
-        &mut memory.seats,
-        0,
-        it,
-        1,
-        snapshot,
-        at,
-    )
+    memory.seats[0] = seat;
+    memory
+        .lend()
+        .leaf_walk(Turn { number: 0, seat }, 1, snapshot, at)
 }
 
 /// The value that a step found, absent where the key is missing.
-fn found(answer: Answer) -> Result<Option<u64>, Fail> {
-    let Answer::Ended(ending) = answer else {
+fn found(answer: Result<Answer, Refusal>) -> Result<Option<u64>, Fail> {
+    let Ok(Answer::Ended(ending)) = answer else {
         return Err(Fail::new("not ended"));
     };
     match ending.end {
@@ -85,23 +76,16 @@ fn look(key: u32, at: Head) -> Result<Option<u64>, Fail> {
     found(walk(&mut memory, Request::Lookup(expiry(key)), at))
 }
 
-/// The record or frame where a lookup goes on after one node, as (is a record, number).
-fn onward(key: u32, at: Head) -> Result<(bool, usize), Fail> {
+/// Where a lookup goes on after one node.
+fn onward(key: u32, at: Head) -> Result<Head, Fail> {
     let mut memory = leaf();
-    let Answer::Going = walk(&mut memory, Request::Lookup(expiry(key)), at) else {
+    let Ok(Answer::Going) = walk(&mut memory, Request::Lookup(expiry(key)), at) else {
         return Err(Fail::new("not going"));
     };
-    match memory.seats[0].phase {
-        Phase::LeafWalk {
-            at: Head::Record(number),
-            ..
-        } => Ok((true, number)),
-        Phase::LeafWalk {
-            at: Head::Frame(number),
-            ..
-        } => Ok((false, number)),
-        _ => Err(Fail::new("another phase")),
-    }
+    let Phase::LeafWalk { at, .. } = memory.seats[0].phase else {
+        return Err(Fail::new("another phase"));
+    };
+    Ok(at)
 }
 
 #[test]
@@ -110,15 +94,15 @@ fn a_lookup_ends_where_its_key_is_decided(rt: HostRuntime) -> Result<(), Fail> {
     assert_eq!(rt; look(10, Head::Record(1))?, None);
     assert_eq!(rt; look(30, Head::Frame(0))?, Some(3));
     assert_eq!(rt; look(20, Head::Frame(0))?, None);
-    assert_eq!(rt; onward(30, Head::Record(2))?, (true, 1), "a split");
+    assert_eq!(rt; onward(30, Head::Record(2))?, Head::Record(1), "a split");
     assert_eq!(rt;
         onward(30, Head::Record(1))?,
-        (true, 0),
+        Head::Record(0),
         "another key's deletion"
     );
     assert_eq!(rt;
         onward(30, Head::Record(0))?,
-        (false, 0),
+        Head::Frame(0),
         "another key's insertion"
     );
     Ok(())
@@ -127,7 +111,7 @@ fn a_lookup_ends_where_its_key_is_decided(rt: HostRuntime) -> Result<(), Fail> {
 /// What a walk puts into the free record: its kind and value, on which record, and the size and depth then.
 fn change(request: Request<Expiry>) -> Result<Record<Expiry>, Fail> {
     let mut memory = leaf();
-    let Answer::Going = walk(&mut memory, request, Head::Frame(0)) else {
+    let Ok(Answer::Going) = walk(&mut memory, request, Head::Frame(0)) else {
         return Err(Fail::new("not going"));
     };
     let Phase::Swap {

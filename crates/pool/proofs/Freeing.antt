@@ -7,10 +7,6 @@ use Rattle.nodes.specs.declared.node.Record.{Record}
 use Rattle.pool.specs.Free.{free_chain, freed}
 
 module _ {K : Type 0} where
-  pub chain_done : (n : ℕ) (rs : List (Record K)) (at : Head) → n ≡ 0 → free_chain n rs at ≡ rs
-  chain_done zero rs at e = refl
-  chain_done (suc n) rs at e = absurd (omega arith)
-
   pub chain_at_frame : (n : ℕ) (rs : List (Record K)) (at : Head) (f : ℕ) → at ≡ heads.Frame f → free_chain n rs at ≡ rs
   chain_at_frame zero rs at f e = refl
   chain_at_frame (suc n) rs at f e = ap (free_chain (suc n) rs) e

@@ -1,2 +1,3 @@
 pub mod Firsts
 pub mod Freeing
+pub mod Leaving

@@ -1,5 +1,5 @@
 -- what a replaced chain waits for, and who leaves the waits
-use Rattle.std.specs.Prelude.{ℕ, zero, suc, Bool, true, false, ◌||◌, List, Some, None, Option, slice_index_or, slice_set}
+use Rattle.std.specs.Prelude.{ℕ, zero, suc, Bool, true, false, ◌||◌, List, [], ◌∷◌, Some, None, Option, slice_index_or, slice_set}
 use Rattle.std.specs.List.{slice_get}
 use Rattle.nodes.specs.declared.node.Frame.{Frame}
 use Rattle.nodes.specs.declared.node.FrameState.{FrameState}
@@ -12,6 +12,10 @@ use Rattle.pool.specs.Free.{free_chain}
 pub record Pools (K : Type 0) : Type 0 where
   pub records : List (Record K)
   pub frames : List (Frame K)
+
+-- the records beside one frame alone
+abbrev pub alone : {K : Type 0} → List (Record K) → Frame K → Pools K
+alone records frame = record { records = records; frames = frame ∷ [] }
 
 -- a wait is for anyone
 abbrev pub anyone : List Bool → Bool

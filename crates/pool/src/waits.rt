@@ -1,37 +1,24 @@
 ghost use Rattle.std.specs.Prelude.{◌≡◌, false, length, slice_set};
-ghost use Rattle.std.specs.List.{slice_get};
 ghost use Rattle.nodes.specs.declared.node.FrameState.TheVariants.{Waiting};
-ghost use Rattle.pool.specs.Waits.{Pools, anyone, leaves, left_frame, set_state, waits_on};
+ghost use Rattle.pool.specs.Waits.{Pools, alone, anyone, leaves, left_state, set_state};
 
 use crate::free::free_chain;
-use nodes::access::{peek, poke};
+use nodes::access::poke;
 use nodes::node::{Frame, FrameState, Head, Record};
 
 /// Gives a frame a state.
 pub fn set_state<K: Copy>(frames: &mut [Frame<K>], f: usize, state: FrameState)
     ensures { frames.new ≡ set_state frames.old f state }
 {
-    if let Some(frame) = peek(frames, f) {
-        poke(
-            frames,
-            f,
-            Frame {
-                state,
-                attributes: frame.attributes,
-            },
-        );
+    // By index: after a write through `get_mut` a proof knows a slice's length alone.
+    if f < frames.len() {
+        frames[f].state = state;
     }
-}
-
-/// Whether any seat is marked.
-fn any_marked(seats: [bool; 4]) -> bool
-    ensures { result ≡ anyone seats }
-{
-    seats[0] || seats[1] || seats[2] || seats[3]
 }
 
 /// A replaced chain, of `count` records from `head` down to the frame `base`, waits for the marked seats. The seat
 /// whose swap replaced it leaves the waits next, which frees what waits for nobody.
+// Head, count and seats stand one by one, as a waiting frame holds them.
 pub fn retire<K: Copy>(
     frames: &mut [Frame<K>],
     base: usize,
@@ -53,69 +40,53 @@ pub fn retire<K: Copy>(
 }
 
 /// The marks without that of a seat.
-fn unmarked(seats: [bool; 4], seat: usize) -> [bool; 4]
+fn unmarked(mut seats: [bool; 4], seat: usize) -> [bool; 4]
     ensures { result ≡ slice_set seats seat false }
 {
-    let mut seats = seats;
-    if seat < 4 {
-        seats[seat] = false;
-    }
+    poke(&mut seats, seat, false);
     seats
 }
 
-/// A replaced chain waits for the seats still marked, or is free where there is none.
-fn wait_on<K: Copy>(
-    records: &mut [Record<K>],
-    frames: &mut [Frame<K>],
-    f: usize,
-    seats: [bool; 4],
-    head: Head,
-    count: usize,
-)
-    ensures { ◌≡◌ {A = Pools K} (record { records = records.new; frames = frames.new })
-        (waits_on (record { records = records.old; frames = frames.old }) f seats head count (anyone seats)) }
+/// Whether any seat is marked.
+fn any_marked(seats: [bool; 4]) -> bool
+    ensures { result ≡ anyone seats }
 {
-    if any_marked(seats) {
-        set_state(
-            frames,
-            f,
-            FrameState::Waiting {
-                seats,
-                head,
-                records: count,
-            },
-        );
-    } else {
-        free_chain(records, head, count);
-        set_state(frames, f, FrameState::Free);
-    }
+    seats.contains(&true)
 }
 
-/// A seat leaves the waits of one frame.
-fn leave_frame<K: Copy>(records: &mut [Record<K>], frames: &mut [Frame<K>], seat: usize, f: usize)
-    ensures { ◌≡◌ {A = Pools K} (record { records = records.new; frames = frames.new })
-        (left_frame (record { records = records.old; frames = frames.old }) seat f (slice_get frames.old f)) }
+/// A seat leaves the waits of one frame: its replaced chain waits for the seats still marked, or is free where there is
+/// none.
+fn leave_frame<K: Copy>(records: &mut [Record<K>], frame: &mut Frame<K>, seat: usize)
+    ensures { alone records.new frame.new ≡ left_state (alone records.old frame.old) seat 0 frame.old.state }
 {
-    let Some(frame) = peek(frames, f) else {
+    let FrameState::Waiting {
+        seats,
+        head,
+        records: count,
+    } = frame.state
+    else {
         return;
     };
-    match frame.state {
-        FrameState::Free => {}
-        FrameState::Used => {}
-        FrameState::Waiting {
+    let seats = unmarked(seats, seat);
+    if any_marked(seats) {
+        frame.state = FrameState::Waiting {
             seats,
             head,
             records: count,
-        } => wait_on(records, frames, f, unmarked(seats, seat), head, count),
+        };
+    } else {
+        free_chain(records, head, count);
+        frame.state = FrameState::Free;
     }
 }
 
 /// A seat whose operation has ended leaves all waits, and what then waits for nobody is free.
+// The two pools are lent one by one: most functions need one alone.
 pub fn leave<K: Copy>(records: &mut [Record<K>], frames: &mut [Frame<K>], seat: usize)
     ensures { ◌≡◌ {A = Pools K} (record { records = records.new; frames = frames.new })
         (leaves (record { records = records.old; frames = frames.old }) seat (length frames.old)) }
 {
-    for f in 0..frames.len() {
-        leave_frame(records, frames, seat, f);
+    for frame in frames.iter_mut() {
+        leave_frame(records, frame, seat);
     }
 }

@@ -1,6 +1,7 @@
 -- every record is accounted for: in an index at rest, after begin, and while a seat has its records in hand
 use Rattle.std.proofs.Common.{◌≡◌, ℕ, zero, suc, ◌+◌, Bool, true, false, cond, eqb, leb, List, [], ◌∷◌, ◌++◌, map, length, set, Some, None, Option, sym, refl, ap, ◌∙◌, subst, arith}
 use Rattle.std.specs.List.{slice_get}
+use Rattle.std.proofs.lemmas.Option.{none-some, same_Some}
 use Rattle.std.proofs.lemmas.Bool.{cond_both}
 use Rattle.image.specs.declared.entry.Entry.{Entry}
 use Rattle.nodes.specs.declared.node.Frame.{Frame}
@@ -11,7 +12,6 @@ use Rattle.nodes.specs.declared.node.Head.TheVariants as heads
 use Rattle.nodes.specs.declared.node.Record.{Record}
 use Rattle.nodes.specs.declared.node.Slot.{Slot}
 use Rattle.nodes.specs.Chains.{bind}
-use Rattle.nodes.proofs.Ranges.{none_some, some_same}
 use Rattle.pool.specs.Free.{freed}
 use Rattle.pool.specs.Waits.{Pools, anyone, leaves, left_frame, left_state, state_set, waits_on, with_state}
 use Rattle.bwtree.specs.declared.seat.Phase.{Phase}
@@ -22,11 +22,11 @@ use Rattle.bwtree.specs.Memory.{Memory, Outcome, at_phase, set_seat}
 use Rattle.bwtree.specs.Reports.{depth_of, total}
 use Rattle.bwtree.specs.Steps.{begin_at, begin_on, opened}
 use Rattle.bwtree.specs.Swaps.{is_open}
+use Rattle.laws.proofs.Items.{never}
 use Rattle.index.specs.Loads.{frame_at, fresh_seat, index_over, leaves_for, numbered, slot_at}
 use Rattle.refinement.specs.Accounts.{Accounted, Leads, account_of, chain_from, chain_in, chained_records, at_frame, free_from, free_records, held_at, held_records, numbers, waiting_at, waiting_records}
 use Rattle.refinement.proofs.Numbered.{nth_numbered}
 use Rattle.refinement.proofs.Settled.{Settled, chain_frame, settled_chain, settled_frame, settled_hand}
-use Rattle.refinement.proofs.Walking.{never}
 use Rattle.refinement.proofs.Weights.{total_append, total_joined, total_set}
 
 -- ---- what the seats hold
@@ -103,15 +103,7 @@ module _ {K : Type 0} (m : Memory K) (s : ℕ) (r : Request K) (a : Accounted m)
   -- a seat that is not open holds nothing
   idle_holds : (p : Phase) → is_open p ≡ false → held_at p ≡ []
   idle_holds phases.Idle e = refl
-  idle_holds phases.RootRead e = never (sym e)
-  idle_holds (phases.RootWalk at best) e = never (sym e)
-  idle_holds (phases.LeafRead slot) e = never (sym e)
-  idle_holds (phases.LeafWalk slot snapshot at) e = never (sym e)
-  idle_holds (phases.Build slot snapshot) e = never (sym e)
-  idle_holds (phases.Swap slot snapshot fresh) e = never (sym e)
-  idle_holds (phases.SplitSwap slot snapshot split separator frame target) e = never (sym e)
-  idle_holds (phases.PostRead separator depth size) e = never (sym e)
-  idle_holds (phases.PostSwap snapshot separator depth size) e = never (sym e)
+  idle_holds _ e = never (sym e)
 
   begun : (it : Seat K) → slice_get m.seats s ≡ Some it → (b : Bool) → is_open it.phase ≡ b → Accounted (begin_on m s r it b).memory
   begun it e true q = a
@@ -122,8 +114,8 @@ module _ {K : Type 0} (m : Memory K) (s : ℕ) (r : Request K) (a : Accounted m)
   accounted_begin o e = go (slice_get m.seats s) refl e
     where
       go : (x : Option (Seat K)) → slice_get m.seats s ≡ x → bind x (λ it. Some (begin_on m s r it (is_open it.phase))) ≡ Some o → Accounted o.memory
-      go None q p = absurd (none_some p)
-      go (Some it) q p = subst (λ (z : Outcome K). Accounted z.memory) (some_same p) (begun it q (is_open it.phase) refl)
+      go None q p = absurd (none-some _ p)
+      go (Some it) q p = subst (λ (z : Outcome K). Accounted z.memory) (same_Some _ _ p) (begun it q (is_open it.phase) refl)
 
 -- ---- an index at rest
 
@@ -165,12 +157,12 @@ module _ {K : Type 0} (m : Memory K) (es : List (Entry K)) where
       go (Some x) = cond_both (eqb n 0) _ _ (λ (y : Frame K). y.attributes.depth ≡ 0) (λ _. refl) (λ _. rw l refl)
 
   slot_flat : (n : ℕ) (h : Head) (o : Option Slot) → bind (bind o (λ (x : Slot). Some (slot_at (leaves_for (length es)) n x))) (λ x. x.head) ≡ Some h → Leads rest.records (depth_of rest.records rest.frames (Some h)) h
-  slot_flat n h None e = absurd (none_some e)
+  slot_flat n h None e = absurd (none-some _ e)
   slot_flat n h (Some x) e = go (leb n (leaves_for (length es))) refl e
     where
       go : (b : Bool) → leb n (leaves_for (length es)) ≡ b → cond b (Some (heads.Frame n)) None ≡ Some h → Leads rest.records (depth_of rest.records rest.frames (Some h)) h
-      go true q p = subst (λ (y : Head). Leads rest.records (depth_of rest.records rest.frames (Some y)) y) (some_same p) (subst (λ (d : ℕ). Leads rest.records d (heads.Frame n)) (sym (frame_flat n q)) at_frame)
-      go false q p = absurd (none_some p)
+      go true q p = subst (λ (y : Head). Leads rest.records (depth_of rest.records rest.frames (Some y)) y) (same_Some _ _ p) (subst (λ (d : ℕ). Leads rest.records d (heads.Frame n)) (sym (frame_flat n q)) at_frame)
+      go false q p = absurd (none-some _ p)
 
   -- an index at rest is accounted for: all its records are free
   pub accounted_start : Accounted rest

@@ -25,11 +25,11 @@ use Rattle.bwtree.specs.Builds.{build, build_for, consolidation, frame_cursor, f
 use Rattle.bwtree.specs.Deltas.{consolidated_of, cut, delta_on, upper_of}
 use Rattle.bwtree.specs.Memory.{Memory, set_frame, set_record, set_slot, with_arrays, with_cursors}
 use Rattle.bwtree.specs.Reports.{depth_of, total}
+use Rattle.laws.proofs.Items.{never}
 use Rattle.refinement.specs.Accounts.{chain_in, waiting_at}
 use Rattle.refinement.proofs.AccountingWalks.{Keeps, goes_on, impossible, keeps_bind, kept, others, walk_ends}
 use Rattle.refinement.proofs.Places.{next_free_lem, nth_set_other, nth_set_same, other_free_lem}
 use Rattle.refinement.proofs.Settled.{Settled, chain_frame, leads_flat, leads_some, settled_frame, settled_hand, settled_slot, settled_taken}
-use Rattle.refinement.proofs.Walking.{never}
 
 module _ {K : Type 0} (records : List (Record K)) where
   -- a free frame has no group
@@ -117,12 +117,10 @@ module _ {K : Type 0} (m : Memory K) (s : ℕ) (it : Seat K) (at_s : slice_get m
   -- ---- build
 
   pub keeps_build_for : (r : Request K) → Keeps (build_for before m s it n h a r)
-  keeps_build_for (requests.Lookup k) = impossible
-  keeps_build_for (requests.Insert k v) = impossible
-  keeps_build_for (requests.Delete k) = impossible
   keeps_build_for (requests.Consolidate k) = keeps_consolidation levels.Leaf (eqb a.depth 0)
   keeps_build_for (requests.Split k) = keeps_splitting (ltb a.size 2)
   keeps_build_for requests.ConsolidateRoot = keeps_consolidation levels.Root (eqb a.depth 0)
+  keeps_build_for _ = impossible
 
 module _ {K : Type 0} (m : Memory K) (s : ℕ) (it : Seat K) (at_s : slice_get m.seats s ≡ Some it) (settled : Settled m.slots m.records m.frames (others m s it at_s)) (before : K → K → Bool) where
   pub keeps_build : (n : ℕ) (h : Head) → Keeps (build before m s it n h)

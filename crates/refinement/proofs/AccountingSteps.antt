@@ -1,9 +1,9 @@
 -- every step keeps every record accounted for
 use Rattle.std.proofs.Common.{◌≡◌, ℕ, Bool, true, Some, Option, sym, ◌∙◌, subst, arith}
 use Rattle.std.specs.List.{slice_get}
+use Rattle.std.proofs.lemmas.Option.{none-some, same_Some}
 use Rattle.nodes.specs.declared.node.Head.{Head}
 use Rattle.nodes.specs.declared.node.Item.{Item}
-use Rattle.nodes.proofs.Ranges.{none_some, some_same}
 use Rattle.bwtree.specs.declared.seat.Phase.{Phase}
 use Rattle.bwtree.specs.declared.seat.Request.{Request}
 use Rattle.bwtree.specs.declared.seat.Seat.{Seat}
@@ -25,8 +25,8 @@ use Rattle.refinement.proofs.Swapping.{current_chain, current_found}
 
 -- what a possible rule leaves
 kept_at : {K : Type 0} {x : Option (Outcome K)} → Keeps x → (o : Outcome K) → x ≡ Some o → Accounted o.memory
-kept_at impossible o e = absurd (none_some e)
-kept_at (kept a) o e = subst (λ (y : Outcome _). Accounted y.memory) (some_same e) a
+kept_at impossible o e = absurd (none-some _ e)
+kept_at (kept a) o e = subst (λ (y : Outcome _). Accounted y.memory) (same_Some _ _ e) a
 
 module _ {K : Type 0} (before : K → K → Bool) (top : Item K) (m : Memory K) (w : World K) (own : Head → Owner) (related : Related before top m w own) (s : ℕ) (it : Seat K) (at_s : slice_get m.seats s ≡ Some it) (accounted : Accounted m) where
   -- a snapshot of a leaf, or of the root, that is current is the slot's own chain
@@ -35,7 +35,7 @@ module _ {K : Type 0} (before : K → K → Bool) (top : Item K) (m : Memory K) 
 
   root_chain_lem : {h : Head} {x : Node K} → Snapshot before (Root top) (view m w own) s 0 h x → unchanged (head_at m.slots 0) h ≡ true → Resolved before (Root top) (store_of m) (λ y. own y ≡ Chained 0) h x.chain
   root_chain_lem {h} p u =
-      let e : related.root_head ≡ h = some_same (sym related.root_slot ∙ unchanged_head (head_at m.slots 0) h u) in
+      let e : related.root_head ≡ h = same_Some _ _ (sym related.root_slot ∙ unchanged_head (head_at m.slots 0) h u) in
       resolved_both p.resolved (subst (λ (g : Head). Resolved before (Root top) (store_of m) (λ y. own y ≡ Chained 0) g w.root.chain) e related.root_chain)
 
   -- with nothing in hand

@@ -1,6 +1,7 @@
 -- the swaps keep the account: what was held is in a slot's chain or free again, and a replaced chain waits
 use Rattle.std.proofs.Common.{◌≡◌, ℕ, suc, ◌+◌, Bool, true, false, List, [], set, Some, None, Option, sym, refl, ap, ◌∙◌, subst, inr, add-one, arith}
 use Rattle.std.specs.List.{slice_get}
+use Rattle.std.proofs.lemmas.Option.{none-some, same_Some}
 use Rattle.nodes.specs.declared.node.Attributes.{Attributes}
 use Rattle.nodes.specs.declared.node.Delta.{Delta}
 use Rattle.nodes.specs.declared.node.Frame.{Frame}
@@ -14,7 +15,6 @@ use Rattle.nodes.specs.declared.node.Kind.TheVariants as kinds
 use Rattle.nodes.specs.declared.node.Record.{Record}
 use Rattle.nodes.specs.declared.node.Slot.{Slot}
 use Rattle.nodes.specs.Chains.{attributes_of, bind, frame_under}
-use Rattle.nodes.proofs.Ranges.{none_some, some_same}
 use Rattle.pool.specs.Free.{free_chain}
 use Rattle.pool.specs.Waits.{state_set, with_state}
 use Rattle.bwtree.specs.declared.seat.Phase.TheVariants as phases
@@ -25,6 +25,7 @@ use Rattle.bwtree.specs.Reports.{depth_of, total}
 use Rattle.bwtree.specs.Swaps.{end_of, given_back, open_seats, post_on, post_read, post_swap, retiring, split_given_back, split_on, split_swap, swap, swap_on, swapped, unchanged}
 use Rattle.laws.specs.Chains.{Chain}
 use Rattle.laws.specs.Worlds.{World}
+use Rattle.laws.proofs.Items.{never}
 use Rattle.refinement.specs.Accounts.{chain_from, chain_in, held_at, waiting_at}
 use Rattle.refinement.specs.Relation.{Owner, Chained, Group, Held, Related, head_at}
 use Rattle.refinement.specs.Resolved.{Framed, Ground, Leaf, Resolved, Root, carried, delta_over, store_of}
@@ -33,23 +34,19 @@ use Rattle.refinement.proofs.Leaving.{freed_deltas}
 use Rattle.refinement.proofs.Places.{head_true, nth_of_map}
 use Rattle.refinement.proofs.Resolving.{attributes_read, frame_read, record_read, under_read}
 use Rattle.refinement.proofs.Settled.{Settled, chain_frame, chain_on, leads_flat, leads_some, settled_chain, settled_filled, settled_frame, settled_hand, settled_on, settled_slot}
-use Rattle.refinement.proofs.Taking.{mine_group}
-use Rattle.refinement.proofs.Walking.{never}
+use Rattle.refinement.proofs.Taking.{mine_group, chained_group}
 
 -- a slot that still holds the snapshot
 pub unchanged_head : (o : Option Head) (h : Head) → unchanged o h ≡ true → o ≡ Some h
 unchanged_head None h e = never e
 unchanged_head (Some g) h e = ap Some (head_true g h e)
 
-chained_not_group : (o : Owner) (n f : ℕ) → o ≡ Chained n → o ≡ Group f → ⊥
-chained_not_group o n f e q = let z : ◌≡◌ {A = ℕ} 0 1 = cc in omega arith
-
 -- a slot with a head
 slot_of : (slots : List Slot) (n : ℕ) (h : Head) → head_at slots n ≡ Some h → (x : Slot) × (slice_get slots n ≡ Some x) × (x.head ≡ Some h)
 slot_of slots n h e = go (slice_get slots n) refl e
   where
     go : (o : Option Slot) → slice_get slots n ≡ o → bind o (λ x. x.head) ≡ Some h → (x : Slot) × (slice_get slots n ≡ Some x) × (x.head ≡ Some h)
-    go None q p = absurd (none_some p)
+    go None q p = absurd (none-some _ p)
     go (Some x) q p = (x, q, p)
 
 module _ {K : Type 0} {slots : List Slot} {records : List (Record K)} {frames : List (Frame K)} (hand : (ℕ → ℕ) → ℕ) where
@@ -122,8 +119,8 @@ module _ {K : Type 0} (before : K → K → Bool) (top : Item K) (m : Memory K) 
         → Settled slots' m.records (state_set m.frames f (states.Waiting marks h b.depth) (slice_get m.frames f)) (others m s it at_s)
     waits_under b e f q marks =
         let v = under_read before m chain in
-        let d : b ≡ carried g c = some_same (sym e ∙ attributes_read m chain) in
-        let z : v.frame ≡ f = some_same (sym v.is ∙ ap (λ (y : Attributes K). frame_under y.depth m.records h) (sym d) ∙ q) in
+        let d : b ≡ carried g c = same_Some _ _ (sym e ∙ attributes_read m chain) in
+        let z : v.frame ≡ f = same_Some _ _ (sym v.is ∙ ap (λ (y : Attributes K). frame_under y.depth m.records h) (sym d) ∙ q) in
         let y = frame_read m v.frame _ v.framed.bounds in
         let there : slice_get m.frames f ≡ Some y.0 = ap (slice_get m.frames) (sym z) ∙ y.1 in
         let alone : own (heads.Frame f) ≡ Chained n = ap (λ (j : ℕ). own (heads.Frame j)) (sym z) ∙ v.holds in
@@ -131,7 +128,7 @@ module _ {K : Type 0} (before : K → K → Bool) (top : Item K) (m : Memory K) 
         subst (λ (o : Option (Frame K)). Settled slots' m.records (state_set m.frames f (states.Waiting marks h b.depth) o) (others m s it at_s)) (sym there)
         (settled_frame lifted f y.0 (with_state y.0 (states.Waiting marks h b.depth)) (others m s it at_s) there
         (λ g.
-        let k = ap (total g) (groupless f y.0 there (chained_not_group (own (heads.Frame f)) n f alone) y.0.state refl) in
+        let k = ap (total g) (groupless f y.0 there (chained_group (own (heads.Frame f)) n f alone) y.0.state refl) in
         let l = ap (λ (j : ℕ). total g (chain_from j m.records h)) depth in omega arith) (λ d. d))
 
     keeps_replaced : Keeps (swapped m s it n h (heads.Frame f))
@@ -169,7 +166,7 @@ module _ {K : Type 0} (before : K → K → Bool) (top : Item K) (m : Memory K) 
       let x = slot_of m.slots target (heads.Frame f) spot in
       let fs = state_set m.frames f states.Free (slice_get m.frames f) in
       let c = settled_slot b target x.0 None (λ g. g i + (g j + others m s it at_s g)) x.1
-      (λ g. let v = ap (λ (o : Option Head). total g (chain_in m.records fs o)) x.2 in let u = ap (total g) (chain_frame (depth_of m.records fs (Some (heads.Frame f))) m.records f) in omega arith) (λ h e. absurd (none_some e)) in
+      (λ g. let v = ap (λ (o : Option Head). total g (chain_in m.records fs o)) x.2 in let u = ap (total g) (chain_frame (depth_of m.records fs (Some (heads.Frame f))) m.records f) in omega arith) (λ h e. absurd (none-some _ e)) in
       given_record (others m s it at_s) j z.0 z.1 (given_record (λ g. g j + others m s it at_s g) i y.0 y.1 c)
 
   pub keeps_split_swap : {P : Head → Type 0} {k : K} {h : Head} {c : Chain K} {l q : Option K} {e : Option ℕ} {xs : List (Item K)} (d : Delta K) (n i j f target : ℕ) → slice_get (store_of m).deltas i ≡ Some (delta_over Leaf kinds.Split k target h c) → slice_get (store_of m).deltas j ≡ Some d

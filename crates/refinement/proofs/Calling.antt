@@ -1,11 +1,9 @@
 -- what every call leaves, by its rule alone: the memory as it was, or one seat set, with its counters
-use Rattle.std.proofs.Common.{◌≡◌, ℕ, ◌+◌, ◌*◌, Bool, true, false, cond, eqb, ltb, List, [], ◌∷◌, length, set, Some, None, Option, sym, refl, ap, ◌∙◌, subst, arith, length-set}
+use Rattle.std.proofs.Common.{◌≡◌, ℕ, ◌+◌, ◌*◌, Bool, true, false, cond, eqb, ltb, List, [], ◌∷◌, length, set, Some, None, Option, Err, sym, refl, ap, ◌∙◌, subst, arith, length-set}
 use Rattle.std.specs.List.{slice_get}
-use Rattle.std.proofs.lemmas.Option.{slice_get_past}
+use Rattle.std.proofs.lemmas.Option.{slice_get_past, none-some, same_Some}
 use Rattle.std.proofs.lemmas.Bool.{and_parts, both_ways, eqb-true, ltb-false}
 use Rattle.nodes.specs.Chains.{bind}
-use Rattle.nodes.proofs.Ranges.{none_some, some_same}
-use Rattle.bwtree.specs.declared.answer.Answer.TheVariants as answers
 use Rattle.bwtree.specs.declared.answer.Refusal.{Refusal}
 use Rattle.bwtree.specs.declared.answer.Refusal.TheVariants as refusals
 use Rattle.bwtree.specs.declared.call.Call.{Call}
@@ -23,10 +21,7 @@ use Rattle.bwtree.specs.Swaps.{is_open}
 use Rattle.laws.specs.Calls.{Did, Otherwise, seat_of}
 use Rattle.refinement.specs.Service.{Served, did, did_at, did_step, event_of, first, serve, without_memory}
 use Rattle.refinement.proofs.Lengths.{SameLengths, long_fits, long_itself, long_seat}
-use Rattle.refinement.proofs.Shaping.{Sets, installed_after, failed_after, step_sets}
-
-begun_refused : (r : Refusal) → answers.Begun ≡ answers.Refused r → ⊥
-begun_refused r e = let z : ◌≡◌ {A = ℕ} 0 1 = cc in omega arith
+use Rattle.refinement.proofs.Shaping.{answer_refused, Sets, installed_after, failed_after, step_sets}
 
 module _ {K : Type 0} where
   -- a call of seat s that did d left the memory as it was, and did nothing if the memory fits the sizes; or it is no
@@ -34,7 +29,7 @@ module _ {K : Type 0} where
   pub data Called (z : Sizes) (m : Memory K) (s : ℕ) (d : Did) (o : Outcome K) : Type 0 where
     keeps : o.memory ≡ m → (fits z m ≡ true → d ≡ Otherwise) → Called z m s d o
     sets : (it seat : Seat K) → slice_get m.seats s ≡ Some it → o.memory.seats ≡ set m.seats s seat → seat.installed ≡ installed_after d it.installed → seat.failed ≡ failed_after d it.failed
-        → ((r : Refusal) → o.answer ≡ answers.Refused r → ⊥) → SameLengths m o.memory → Called z m s d o
+        → ((r : Refusal) → o.answer ≡ Err r → ⊥) → SameLengths m o.memory → Called z m s d o
 
 module _ {K : Type 0} (z : Sizes) (m : Memory K) (c : Call K) where
   -- the same of what the rule of a call gives, if it gives something
@@ -42,13 +37,13 @@ module _ {K : Type 0} (z : Sizes) (m : Memory K) (c : Call K) where
   Leaves x = (o : Outcome K) → x ≡ Some o → Called z m (seat_of (without_memory c)) (did m c o.answer) o
 
   leaves_some : (o : Outcome K) → Called z m (seat_of (without_memory c)) (did m c o.answer) o → Leaves (Some o)
-  leaves_some o a p e = subst (λ (x : Outcome K). Called z m (seat_of (without_memory c)) (did m c x.answer) x) (some_same e) a
+  leaves_some o a p e = subst (λ (x : Outcome K). Called z m (seat_of (without_memory c)) (did m c x.answer) x) (same_Some _ _ e) a
 
-  leaves_refused : (r : Refusal) → (fits z m ≡ true → did m c (answers.Refused r) ≡ Otherwise) → Leaves (Some (refused m r))
+  leaves_refused : (r : Refusal) → (fits z m ≡ true → did m c (Err r) ≡ Otherwise) → Leaves (Some (refused m r))
   leaves_refused r h = leaves_some (refused m r) (keeps refl h)
 
   -- sizes and seat are tested before anything else
-  leaves_tested : (x : Option (Outcome K)) → (fits z m ≡ true → ltb (seat_of (without_memory c)) 4 ≡ false → did m c (answers.Refused refusals.NoSuchSeat) ≡ Otherwise) → Leaves x
+  leaves_tested : (x : Option (Outcome K)) → (fits z m ≡ true → ltb (seat_of (without_memory c)) 4 ≡ false → did m c (Err refusals.NoSuchSeat) ≡ Otherwise) → Leaves x
       → Leaves (cond (fits z m) (cond (ltb (seat_of (without_memory c)) 4) x (Some (refused m refusals.NoSuchSeat))) (Some (refused m refusals.WrongSizes)))
   leaves_tested x h y = sizes (fits z m) refl
     where
@@ -71,12 +66,12 @@ four_seats z m e =
 
 module _ {K : Type 0} (before : K → K → Bool) (z : Sizes) (m : Memory K) (s : ℕ) where
   begins : (r : Request K) (o : Option (Seat K)) → slice_get m.seats s ≡ o → Leaves z m (calls.Begin s r) (bind o (λ it. Some (begin_on m s r it (is_open it.phase))))
-  begins r None e = λ o q. absurd (none_some q)
+  begins r None e = λ o q. absurd (none-some _ q)
   begins r (Some it) e = on (is_open it.phase)
     where
       on : (b : Bool) → Leaves z m (calls.Begin s r) (Some (begin_on m s r it b))
       on true = leaves_refused z m (calls.Begin s r) refusals.SeatOpen (λ _. refl)
-      on false = leaves_some z m (calls.Begin s r) _ (sets it (opened it r) e refl refl refl begun_refused (long_seat long_itself s _))
+      on false = leaves_some z m (calls.Begin s r) _ (sets it (opened it r) e refl refl refl (answer_refused _) (long_seat long_itself s _))
 
   -- a step of a seat at this phase
   module _ (it : Seat K) (at_s : slice_get m.seats s ≡ Some it) (o : Outcome K) where
@@ -84,28 +79,20 @@ module _ {K : Type 0} (before : K → K → Bool) (z : Sizes) (m : Memory K) (s 
     opened_steps d y = sets it y.seat at_s y.seats y.installed y.failed y.answered y.lengths
 
     phase_steps : (p : Phase) → (is_open p ≡ true → Sets m s it (did_step m p) o) → step_for before m s it p ≡ Some o → Called z m s (did_step m p) o
-    phase_steps phases.Idle h q = keeps (ap (λ (x : Outcome K). x.memory) (sym (some_same q))) (λ _. refl)
-    phase_steps phases.RootRead h q = opened_steps _ (h refl)
-    phase_steps (phases.RootWalk at best) h q = opened_steps _ (h refl)
-    phase_steps (phases.LeafRead n) h q = opened_steps _ (h refl)
-    phase_steps (phases.LeafWalk n x at) h q = opened_steps _ (h refl)
-    phase_steps (phases.Build n x) h q = opened_steps _ (h refl)
-    phase_steps (phases.Swap n x fresh) h q = opened_steps _ (h refl)
-    phase_steps (phases.SplitSwap n x i j f target) h q = opened_steps _ (h refl)
-    phase_steps (phases.PostRead j depth size) h q = opened_steps _ (h refl)
-    phase_steps (phases.PostSwap x j depth size) h q = opened_steps _ (h refl)
+    phase_steps phases.Idle h q = keeps (ap (λ (x : Outcome K). x.memory) (sym (same_Some _ _ q))) (λ _. refl)
+    phase_steps _ h q = opened_steps _ (h refl)
 
   steps : (y : Option (Seat K)) → slice_get m.seats s ≡ y → Leaves z m (calls.Step s) (bind y (λ it. step_for before m s it it.phase))
-  steps None e o q = absurd (none_some q)
+  steps None e o q = absurd (none-some _ q)
   steps (Some it) e o q = subst (λ (x : Option (Seat K)). Called z m s (did_at m x) o) (sym e) (phase_steps it e o it.phase (λ b. step_sets before m s it o b q) q)
 
   reports : (y : Option (Seat K)) → Leaves z m (calls.Report s) (bind y (reported m))
-  reports None = λ o q. absurd (none_some q)
+  reports None = λ o q. absurd (none-some _ q)
   reports (Some it) = told (eqb (free_in m + (chained_in m + (held_all m + waiting_all m))) (length m.records))
     where
       told : (b : Bool) → Leaves z m (calls.Report s) (cond b (Some (report_of m it)) None)
       told true = leaves_some z m (calls.Report s) (report_of m it) (keeps refl (λ _. refl))
-      told false = λ o q. absurd (none_some q)
+      told false = λ o q. absurd (none-some _ q)
 
   -- there is no fifth seat
   no_step : fits z m ≡ true → ltb s 4 ≡ false → did_at m (slice_get m.seats s) ≡ Otherwise
@@ -133,16 +120,16 @@ module _ {K : Type 0} (before : K → K → Bool) where
     where
       others : (o : Outcome K) → call before z m c ≡ Some o → (q : Option (Served K)) → serve before z o.memory cs ≡ q → bind q (λ x. Some (first (event_of m c o) x)) ≡ Some r
           → (p : Outcome K) × (call before z m c ≡ Some p) × (x : Served K) × (serve before z p.memory cs ≡ Some x) × (r ≡ first (event_of m c p) x)
-      others o is None f h = absurd (none_some h)
-      others o is (Some q) f h = (o, is, q, f, sym (some_same h))
+      others o is None f h = absurd (none-some _ h)
+      others o is (Some q) f h = (o, is, q, f, sym (same_Some _ _ h))
 
       go : (o : Option (Outcome K)) → call before z m c ≡ o → bind o (λ p. bind (serve before z p.memory cs) (λ x. Some (first (event_of m c p) x))) ≡ Some r
           → (p : Outcome K) × (call before z m c ≡ Some p) × (x : Served K) × (serve before z p.memory cs ≡ Some x) × (r ≡ first (event_of m c p) x)
-      go None is h = absurd (none_some h)
+      go None is h = absurd (none-some _ h)
       go (Some o) is h = others o is (serve before z o.memory cs) refl h
 
   pub serve_fits : (z : Sizes) (m : Memory K) (cs : List (Call K)) (r : Served K) → serve before z m cs ≡ Some r → fits z m ≡ true → fits z r.memory ≡ true
-  serve_fits z m [] r e f = subst (λ (x : Served K). fits z x.memory ≡ true) (some_same e) f
+  serve_fits z m [] r e f = subst (λ (x : Served K). fits z x.memory ≡ true) (same_Some _ _ e) f
   serve_fits z m (c ∷ cs) r e f =
       let (o, is, q, rest, whole) = serve_first z m c cs r e in
       subst (λ (x : Served K). fits z x.memory ≡ true) (sym whole) (serve_fits z o.memory cs q rest (call_fits before z m c o is f))

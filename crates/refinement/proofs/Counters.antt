@@ -1,8 +1,8 @@
 -- a seat's counters are the numbers of its swaps in the history, up to the largest number of 64 bits
 use Rattle.std.proofs.Common.{◌≡◌, ℕ, ◌+◌, Bool, true, false, cond, eqb, List, [], ◌∷◌, set, Some, sym, refl, ap, ◌∙◌, subst, arith}
 use Rattle.std.specs.List.{slice_get}
+use Rattle.std.proofs.lemmas.Option.{same_Some}
 use Rattle.std.proofs.lemmas.Bool.{eqb-false, eqb-true, ne_eqb}
-use Rattle.nodes.proofs.Ranges.{some_same}
 use Rattle.bwtree.specs.declared.call.Call.{Call}
 use Rattle.bwtree.specs.declared.seat.Seat.{Seat}
 use Rattle.bwtree.specs.declared.sizes.Sizes.{Sizes}
@@ -10,7 +10,7 @@ use Rattle.bwtree.specs.Calls.{call}
 use Rattle.bwtree.specs.Memory.{Memory, Outcome, risen}
 use Rattle.bwtree.specs.Reports.{capped}
 use Rattle.bwtree.specs.Steps.{fits}
-use Rattle.laws.specs.Calls.{Did, Opened, ReadLeaf, Installed, Failed, Otherwise, seat_of}
+use Rattle.laws.specs.Calls.{Did, Installed, Failed, seat_of}
 use Rattle.laws.specs.Histories.{failed_by, one_failed, one_installed}
 use Rattle.refinement.specs.Service.{Served, did, installed_by, serve, without_memory}
 use Rattle.refinement.proofs.Calling.{Called, keeps, sets, called, call_fits, serve_first}
@@ -26,18 +26,12 @@ risen_capped : (n i : ℕ) → n ≡ capped i → risen n ≡ capped (i + 1)
 risen_capped n i e = omega arith
 
 installed_capped : (d : Did) (n i : ℕ) → n ≡ capped i → installed_after d n ≡ capped (i + one_installed d)
-installed_capped Opened n i e = e ∙ capped_on i (i + 0) (omega arith)
-installed_capped ReadLeaf n i e = e ∙ capped_on i (i + 0) (omega arith)
 installed_capped Installed n i e = risen_capped n i e
-installed_capped Failed n i e = e ∙ capped_on i (i + 0) (omega arith)
-installed_capped Otherwise n i e = e ∙ capped_on i (i + 0) (omega arith)
+installed_capped _ n i e = e ∙ capped_on i (i + 0) (omega arith)
 
 failed_capped : (d : Did) (n i : ℕ) → n ≡ capped i → failed_after d n ≡ capped (i + one_failed d)
-failed_capped Opened n i e = e ∙ capped_on i (i + 0) (omega arith)
-failed_capped ReadLeaf n i e = e ∙ capped_on i (i + 0) (omega arith)
-failed_capped Installed n i e = e ∙ capped_on i (i + 0) (omega arith)
 failed_capped Failed n i e = risen_capped n i e
-failed_capped Otherwise n i e = e ∙ capped_on i (i + 0) (omega arith)
+failed_capped _ n i e = e ∙ capped_on i (i + 0) (omega arith)
 
 -- ---- a seat's counters
 
@@ -63,7 +57,7 @@ module _ {K : Type 0} where
         go : (b : Bool) → eqb u s ≡ b → Counted s (i + cond b (one_installed d) 0) (f + cond b (one_failed d) 0) o.memory
         go true q =
             let here : u ≡ s = eqb-true u s q in
-            let own : it ≡ c.0 = some_same (sym at_u ∙ ap (slice_get m.seats) here ∙ c.1) in (
+            let own : it ≡ c.0 = same_Some _ _ (sym at_u ∙ ap (slice_get m.seats) here ∙ c.1) in (
               seat,
               ap (λ (xs : List (Seat K)). slice_get xs s) seats ∙ ap (slice_get (set m.seats u seat)) (sym here) ∙ nth_set_same m.seats u seat it at_u,
               installed ∙ installed_capped d it.installed i (ap (λ (x : Seat K). x.installed) own ∙ c.2),
@@ -82,7 +76,7 @@ module _ {K : Type 0} (before : K → K → Bool) where
   pub counters : (cs : List (Call K)) (z : Sizes) (m : Memory K) (r : Served K) → serve before z m cs ≡ Some r → fits z m ≡ true → (s : ℕ) (it : Seat K) → slice_get m.seats s ≡ Some it → (i f : ℕ) → it.installed ≡ capped i → it.failed ≡ capped f
       → (y : Seat K) × (slice_get r.memory.seats s ≡ Some y) × (y.installed ≡ capped (i + installed_by s r.history)) × (y.failed ≡ capped (f + failed_by s r.history))
   counters [] z m r e l s it at_s i f a b =
-      subst (λ (x : Served K). Counted s (i + installed_by s x.history) (f + failed_by s x.history) x.memory) (some_same e)
+      subst (λ (x : Served K). Counted s (i + installed_by s x.history) (f + failed_by s x.history) x.memory) (same_Some _ _ e)
       (counted_on s i (i + 0) f (f + 0) m (omega arith) (omega arith) (it, at_s, a, b))
   counters (c ∷ cs) z m r e l s it at_s i f a b =
       let (o, is, q, rest, whole) = serve_first before z m c cs r e in

@@ -2,6 +2,8 @@
 use Rattle.std.proofs.Common.{◌≡◌, ℕ, zero, suc, ◌+◌, ◌<◌, ◌≤◌, Bool, true, false, not, eqb, List, [], ◌∷◌, map, length, Some, None, filter, sym, refl, ap, ◌∙◌, subst, ⊎_elim, arith}
 use Rattle.std.specs.List.{AllByRecursion}
 use Rattle.std.proofs.ByRecursion.{all_kept_by, All-map, All-weaker}
+use Rattle.std.proofs.lemmas.List.{length-map}
+use Rattle.std.proofs.lemmas.Option.{slice_get_within}
 use Rattle.std.proofs.lemmas.Bool.{both_ways, cases_Bool, cond_both, eq-eqb, eqb-true, not-true}
 use Rattle.nodes.specs.declared.node.Head.{Head}
 use Rattle.nodes.specs.declared.node.Head.TheVariants as heads
@@ -10,9 +12,8 @@ use Rattle.bwtree.specs.Memory.{Memory}
 use Rattle.laws.specs.Chains.{Chain}
 use Rattle.laws.specs.Worlds.{Node, World, find}
 use Rattle.laws.proofs.Leaves.{Tiled, find_here, find_missing, missing_head}
-use Rattle.refinement.specs.Relation.{Owner, Free, Chained, Held, Group, Related}
+use Rattle.refinement.specs.Relation.{Owner, Chained, Related}
 use Rattle.refinement.specs.Resolved.{Ground, store_of, Resolved}
-use Rattle.refinement.proofs.Places.{length_map, nth_below}
 use Rattle.refinement.proofs.Reading.{head_below}
 use Rattle.refinement.proofs.Resolving.{under_read, frame_read}
 use Rattle.refinement.proofs.Slots.{leaf_in_slot}
@@ -94,10 +95,8 @@ module _ {K : Type 0} where
 
 -- the slot in whose chain something is
 abbrev slot_of : Owner → ℕ
-slot_of Free = 0
 slot_of (Chained n) = n
-slot_of (Held s) = 0
-slot_of (Group f) = 0
+slot_of _ = 0
 
 module _ {K : Type 0} (before : K → K → Bool) (top : Item K) (m : Memory K) (w : World K) (own : Head → Owner) (related : Related before top m w own) (tiled : Tiled before w.leaves) where
   abbrev places : List ℕ
@@ -111,7 +110,7 @@ module _ {K : Type 0} (before : K → K → Bool) (top : Item K) (m : Memory K) 
   own_frame r =
       let u = under_read before m r in
       let z = frame_read m u.frame _ u.framed.bounds in
-      (u.frame, nth_below m.frames u.frame z.0 z.1, ap slot_of u.holds)
+      (u.frame, slice_get_within m.frames u.frame z.0 z.1, ap slot_of u.holds)
 
   all_leaves : (P : ℕ → Type 0) → ((n : ℕ) (x : Node K) → find n w.leaves ≡ Some x → P n) → AllByRecursion P (slots_of w.leaves)
   all_leaves P h =
@@ -124,12 +123,12 @@ module _ {K : Type 0} (before : K → K → Bool) (top : Item K) (m : Memory K) 
         (0, head_below m.slots 0 related.root_head related.root_slot, refl),
         all_leaves (Labels (λ (n : ℕ). n) (length m.slots)) (λ n x e. let z = leaf_in_slot before top m w own related n x e in (n, head_below m.slots n z.head z.is, refl)),
       ) in
-      let l = length_map (λ (l : Node K). l.slot) w.leaves in
+      let l = length-map w.leaves (λ (l : Node K). l.slot) in
       omega arith
 
   pub leaves_few_frames : 1 + length w.leaves ≤ length m.frames
   leaves_few_frames =
       let k = few (λ (f : ℕ). slot_of (own (heads.Frame f))) (length m.frames) places places_differ
       (own_frame related.root_chain, all_leaves (Labels (λ (f : ℕ). slot_of (own (heads.Frame f))) (length m.frames)) (λ n x e. own_frame (leaf_in_slot before top m w own related n x e).resolved)) in
-      let l = length_map (λ (l : Node K). l.slot) w.leaves in
+      let l = length-map w.leaves (λ (l : Node K). l.slot) in
       omega arith

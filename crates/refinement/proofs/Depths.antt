@@ -1,16 +1,16 @@
 -- a chain is no deeper than there are records: each of its records has a depth of its own
 use Rattle.std.proofs.Common.{◌≡◌, ℕ, zero, suc, ◌+◌, ◌≤◌, Bool, cond, leb, List, [], ◌∷◌, length, Some, sym, ap, ◌∙◌, subst, arith}
 use Rattle.std.specs.List.{slice_get}
+use Rattle.std.proofs.lemmas.List.{length-map}
+use Rattle.std.proofs.lemmas.Option.{none-some, same_Some}
 use Rattle.std.proofs.lemmas.Bool.{cases_Bool}
 use Rattle.std.proofs.lemmas.Bool.Decides.{nat_tests}
 use Rattle.nodes.specs.declared.node.Delta.{Delta}
 use Rattle.nodes.specs.declared.node.Head.{Head}
 use Rattle.nodes.specs.declared.node.Record.{Record}
-use Rattle.nodes.proofs.Ranges.{none_some, some_same}
 use Rattle.bwtree.specs.Memory.{Memory}
 use Rattle.laws.specs.Chains.{Chain}
 use Rattle.refinement.specs.Resolved.{Store, Ground, store_of, carried, delta_over, Resolved, base, on}
-use Rattle.refinement.proofs.Places.{length_map}
 
 module _ {K : Type 0} where
   -- 1 where a delta is not deeper than e
@@ -40,9 +40,9 @@ module _ {K : Type 0} where
   tally_more e (d ∷ ds) = let a = up_more e d in let b = tally_more e ds in omega arith
 
   tally_here : (e : ℕ) (ds : List (Delta K)) (i : ℕ) (d : Delta K) → slice_get ds i ≡ Some d → d.attributes.depth ≡ suc e → suc (tally e ds) ≤ tally (suc e) ds
-  tally_here e [] i d q h = absurd (none_some q)
+  tally_here e [] i d q h = absurd (none-some _ q)
   tally_here e (x ∷ ds) zero d q h =
-      let y : x ≡ d = some_same q in
+      let y : x ≡ d = same_Some _ _ q in
       let a = up_here e x (ap (λ (z : Delta K). z.attributes.depth) y ∙ h) in
       let b = tally_more e ds in omega arith
   tally_here e (x ∷ ds) (suc i) d q h = let a = up_more e x in let b = tally_here e ds i d q h in omega arith
@@ -61,4 +61,4 @@ module _ {K : Type 0} (before : K → K → Bool) where
   depth_bound m {g} {c = c} r =
       let a = depth_tally r in
       let b = tally_length (carried g c).depth (store_of m).deltas in
-      omega (arith, length_map (λ (x : Record K). x.delta) m.records)
+      omega (arith, length-map m.records (λ (x : Record K). x.delta))

@@ -1,6 +1,7 @@
 -- swap of a split: memory follows the index without memory
-use Rattle.std.proofs.Common.{◌≡◌, ℕ, ◌≤◌, Bool, true, false, cond, eqb, List, [], ◌∷◌, length, set, Some, None, Option, sym, refl, ap, ◌∙◌, subst, inr}
+use Rattle.std.proofs.Common.{◌≡◌, ℕ, ◌≤◌, Bool, true, false, cond, eqb, List, [], ◌∷◌, length, set, Some, None, Option, Ok, sym, refl, ap, ◌∙◌, subst, inr}
 use Rattle.std.specs.List.{slice_get}
+use Rattle.std.proofs.lemmas.Option.{same_Some}
 use Rattle.std.proofs.lemmas.Bool.{ne_eqb}
 use Rattle.nodes.specs.declared.node.Attributes.{Attributes}
 use Rattle.nodes.specs.declared.node.Delta.{Delta}
@@ -10,7 +11,6 @@ use Rattle.nodes.specs.declared.node.Item.{Item}
 use Rattle.nodes.specs.declared.node.Kind.TheVariants as kinds
 use Rattle.nodes.specs.declared.node.Slot.{Slot}
 use Rattle.nodes.specs.Chains.{bind}
-use Rattle.nodes.proofs.Ranges.{some_same}
 use Rattle.bwtree.specs.declared.answer.Answer.TheVariants as answers
 use Rattle.bwtree.specs.declared.seat.Phase.TheVariants as phases
 use Rattle.bwtree.specs.declared.seat.Seat.{Seat}
@@ -31,8 +31,8 @@ use Rattle.refinement.proofs.Reading.{carried_leaf}
 use Rattle.refinement.proofs.Resolving.{record_read, resolved_head, resolved_weaker}
 use Rattle.refinement.proofs.Returning.{frame_returned, record_returned}
 use Rattle.refinement.proofs.Sitting.{follows_by, related_sit}
-use Rattle.refinement.proofs.Swapping.{current_chain, current_found, held_free, set_other}
-use Rattle.refinement.proofs.Taking.{free_held, mine_chained, mine_group, mine_held, mine_seen, owned, owned_keep, owned_same}
+use Rattle.refinement.proofs.Swapping.{current_chain, current_found, set_other}
+use Rattle.refinement.proofs.Taking.{free_held, mine_chained, mine_group, mine_held, mine_seen, owned, owned_keep, owned_same, held_free}
 use Rattle.refinement.proofs.Unhiding.{related_unhidden}
 
 module _ {K : Type 0} (before : K → K → Bool) (top : Item K) (m : Memory K) (w : World K) (own : Head → Owner) (related : Related before top m w own) (s : ℕ) (it : Seat K) (same : it.request ≡ (w.seats s).request)
@@ -44,12 +44,12 @@ module _ {K : Type 0} (before : K → K → Bool) (top : Item K) (m : Memory K) 
   -- the root's head is held by nobody
   past : eqb target 0 ≡ false
   past = ne_eqb target 0 (λ z.
-      let r : related.root_head ≡ heads.Frame f = some_same (sym related.root_slot ∙ ap (head_at m.slots) (sym z) ∙ filled) in
+      let r : related.root_head ≡ heads.Frame f = same_Some _ _ (sym related.root_slot ∙ ap (head_at m.slots) (sym z) ∙ filled) in
       mine_chained s 0 (own related.root_head) (inr (ap own r ∙ held_frame)) (resolved_head related.root_chain))
 
   -- ---- the slot is not equal: all that was taken is given back
 
-  fails : Follows before top (split_on m s it n i j f target false) (turn Failed answers.Going (at w s RootRead))
+  fails : Follows before top (split_on m s it n i j f target false) (turn Failed (Ok answers.Going) (at w s RootRead))
   fails =
       let y = at_phase (lost it) phases.RootRead in
       let w₀ = at w s RootRead in
@@ -129,7 +129,7 @@ module _ {K : Type 0} (before : K → K → Bool) (top : Item K) (m : Memory K) 
       small = subst (λ (c : Chain K). length (replay before c) ≤ 64) half framed.small;
     }
 
-    succeeds : (depth size : ℕ) → Follows before top (Some (goes (set_slot m n (Some (heads.Record i))) s (won it) (phases.PostRead j depth size))) (turn Installed answers.Going (at (divided before w n x.chain k target) s (PostRead k target depth size)))
+    succeeds : (depth size : ℕ) → Follows before top (Some (goes (set_slot m n (Some (heads.Record i))) s (won it) (phases.PostRead j depth size))) (turn Installed (Ok answers.Going) (at (divided before w n x.chain k target) s (PostRead k target depth size)))
     succeeds depth size =
         let a = at_phase (won it) phases.Idle in
         let b = at_phase (won it) (phases.PostRead j depth size) in

@@ -72,12 +72,9 @@ module _ {K : Type 0} (before : K → K → Bool) (w : World K) (s : ℕ) (g : G
   split_slot_lem x (Some target) i = cond_both g.records _ _ (Does Otherwise) (λ _. split_at_lem x target (slice_get (replay before x.chain) (cut (attributes_of x.chain).size))) (λ _ i. refl) i
 
   builds : (x : Node K) (r : Request K) → Does Otherwise (build_act before w g x r)
-  builds x (requests.Lookup k) i = refl
-  builds x (requests.Insert k v) i = refl
-  builds x (requests.Delete k) i = refl
   builds x (requests.Consolidate k) i = cond_both (eqb (attributes_of x.chain).depth 0) _ _ (Does Otherwise) (λ _ i. refl) (λ _. cond_both g.frame _ _ (Does Otherwise) (λ _ i. refl) (λ _ i. refl)) i
   builds x (requests.Split k) i = cond_both (ltb (attributes_of x.chain).size 2) _ _ (Does Otherwise) (λ _ i. refl) (λ _. cond_both g.frame _ _ (Does Otherwise) (λ _. split_slot_lem x (offered w g.slot)) (λ _ i. refl)) i
-  builds x requests.ConsolidateRoot i = refl
+  builds x _ i = refl
 
   root_builds : (x : Node K) → Does Otherwise (root_consolidation before g x)
   root_builds x = cond_both (eqb (attributes_of x.chain).depth 0) _ _ (Does Otherwise) (λ _ i. refl) (λ _. cond_both g.frame _ _ (Does Otherwise) (λ _ i. refl) (λ _ i. refl))

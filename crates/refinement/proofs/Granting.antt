@@ -30,16 +30,8 @@ module _ {K : Type 0} where
 
   -- as many free records as the next step may take: two at the build of a split, one elsewhere
   abbrev pub enough : Memory K → Seat K → Phase → Bool
-  enough m it phases.Idle = is_there (free_record_for m it)
-  enough m it phases.RootRead = is_there (free_record_for m it)
-  enough m it (phases.RootWalk at best) = is_there (free_record_for m it)
-  enough m it (phases.LeafRead slot) = is_there (free_record_for m it)
-  enough m it (phases.LeafWalk slot snapshot at) = is_there (free_record_for m it)
   enough m it (phases.Build slot snapshot) = two_free m it
-  enough m it (phases.Swap slot snapshot fresh) = is_there (free_record_for m it)
-  enough m it (phases.SplitSwap slot snapshot split separator frame target) = is_there (free_record_for m it)
-  enough m it (phases.PostRead separator depth size) = is_there (free_record_for m it)
-  enough m it (phases.PostSwap snapshot separator depth size) = is_there (free_record_for m it)
+  enough m it _ = is_there (free_record_for m it)
 
   -- what a report of a seat tells
   abbrev pub telling : Memory K → Seat K → Report

@@ -1,24 +1,24 @@
 -- an empty slot is offered to a split, and gets the frame of its new leaf
 use Rattle.std.proofs.Common.{◌≡◌, ℕ, ◌<◌, Bool, true, false, eqb, List, Some, None, Option, sym, refl, ap, ◌∙◌, subst, ⊎_elim, arith, length-set}
 use Rattle.std.specs.List.{slice_get}
+use Rattle.std.proofs.lemmas.Option.{none-some}
 use Rattle.std.proofs.lemmas.Bool.{both_ways, cases_Bool, eq-eqb, eqb-true, ne_eqb}
 use Rattle.nodes.specs.declared.node.Head.{Head}
 use Rattle.nodes.specs.declared.node.Item.{Item}
 use Rattle.nodes.specs.declared.node.Slot.{Slot}
 use Rattle.nodes.specs.Chains.{bind}
-use Rattle.nodes.proofs.Ranges.{none_some}
 use Rattle.pool.specs.Free.{empty_slot, next_free}
 use Rattle.bwtree.specs.declared.seat.Phase.{Phase}
 use Rattle.bwtree.specs.declared.seat.Request.{Request}
 use Rattle.bwtree.specs.Memory.{Memory, set_slot}
 use Rattle.bwtree.specs.Swaps.{unchanged as same_as}
 use Rattle.laws.specs.Worlds.{Node, Phase as Place, World, find, holds, offered}
+use Rattle.laws.proofs.Items.{never}
 use Rattle.refinement.specs.Relation.{Owner, Seen, head_at, states_of, View, view, SlotAs, empty, full, hidden, PhaseAs, idle, root_read, root_walk, leaf_read, leaf_walk, build, root_build, putting, making, root_making, splitting, post_read, post_swap, Related}
 use Rattle.refinement.specs.Resolved.{Store, store_of}
 use Rattle.refinement.proofs.Installing.{head_elsewhere, head_there}
 use Rattle.refinement.proofs.Moves.{Kept, seat_kept}
 use Rattle.refinement.proofs.Places.{head_other, next_free_lem, nth_there}
-use Rattle.refinement.proofs.Walking.{never}
 
 -- ---- a slot that is empty
 
@@ -36,7 +36,7 @@ module _ {K : Type 0} (before : K → K → Bool) (top : Item K) where
   -- no leaf is in an empty slot
   slot_none : {t : Store K} {own : Head → Owner} {n : ℕ} {o : Option Head} {y : Option (Node K)} → o ≡ None → SlotAs before t own n o y → y ≡ None
   slot_none e empty = refl
-  slot_none e (full p r z) = absurd (none_some (sym e))
+  slot_none e (full p r z) = absurd (none-some _ (sym e))
   slot_none e hidden = refl
 
   -- no seat holds an empty slot
@@ -51,14 +51,14 @@ module _ {K : Type 0} (before : K → K → Bool) (top : Item K) where
   holds_none n e (putting x d o l) = refl
   holds_none n e (making x f o) = refl
   holds_none n e (root_making x c f o) = refl
-  holds_none {v} n e (splitting {target = target} d x q o q' a b o' i c f o'' t k l) = ne_eqb n target (λ z. none_some (sym e ∙ ap (head_at v.slots) z ∙ t))
+  holds_none {v} n e (splitting {target = target} d x q o q' a b o' i c f o'' t k l) = ne_eqb n target (λ z. none-some _ (sym e ∙ ap (head_at v.slots) z ∙ t))
   holds_none n e (post_read d q a b o) = refl
   holds_none n e (post_swap x q o) = refl
 
   module _ (m : Memory K) (w : World K) (own : Head → Owner) (related : Related before top m w own) (n : ℕ) (bare : head_at m.slots n ≡ None) where
     -- it is not the root's
     pub bare_past : eqb n 0 ≡ false
-    bare_past = ne_eqb n 0 (λ z. none_some (sym bare ∙ ap (head_at m.slots) z ∙ related.root_slot))
+    bare_past = ne_eqb n 0 (λ z. none-some _ (sym bare ∙ ap (head_at m.slots) z ∙ related.root_slot))
 
     pub bare_leafless : find n w.leaves ≡ None
     bare_leafless = slot_none bare (related.leaves n bare_past)
@@ -100,7 +100,7 @@ module _ {K : Type 0} (before : K → K → Bool) (top : Item K) where
         slots = length-set m.slots n (record { head = Some x });
         records = λ i q. (q, refl);
         frames = λ f q. (q, λ g l h r xs e. e);
-        spots = λ j f q a b. (elsewhere j (ne_eqb j n (λ z. none_some (sym bare ∙ ap (head_at m.slots) (sym z) ∙ a))) ∙ a, b);
+        spots = λ j f q a b. (elsewhere j (ne_eqb j n (λ z. none-some _ (sym bare ∙ ap (head_at m.slots) (sym z) ∙ a))) ∙ a, b);
       }
 
       pub related_hiding : Related before top hiding w own

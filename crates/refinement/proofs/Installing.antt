@@ -1,6 +1,7 @@
 -- a head is installed in the slot of a leaf
 use Rattle.std.proofs.Common.{◌≡◌, ℕ, suc, ◌*◌, ◌<◌, ◌≤◌, Bool, true, false, cond, eqb, ◌⊎◌, List, [], ◌∷◌, ◌++◌, length, set, Some, None, Option, sym, refl, ap, ◌∙◌, subst, inl, inr, ⊎_elim, arith, length-set}
 use Rattle.std.specs.List.{slice_get, AllByRecursion}
+use Rattle.std.proofs.lemmas.Option.{none-some, same_Some}
 use Rattle.std.proofs.lemmas.Bool.{cases_Bool, both_ways, eqb-true, eq-eqb, ne_eqb}
 use Rattle.nodes.specs.declared.node.Frame.{Frame}
 use Rattle.nodes.specs.declared.node.FrameState.TheVariants as states
@@ -9,7 +10,6 @@ use Rattle.nodes.specs.declared.node.Head.TheVariants as heads
 use Rattle.nodes.specs.declared.node.Item.{Item}
 use Rattle.nodes.specs.declared.node.Slot.{Slot}
 use Rattle.nodes.specs.Chains.{bind}
-use Rattle.nodes.proofs.Ranges.{none_some, some_same}
 use Rattle.bwtree.specs.declared.seat.Seat.{Seat}
 use Rattle.bwtree.specs.Memory.{Memory, set_slot, with_frames}
 use Rattle.bwtree.specs.Swaps.{unchanged as same_as}
@@ -38,7 +38,7 @@ module _ {K : Type 0} where
 
   -- a leaf in none of the slots so far is one that comes in beside slot n
   find_splice_more : (n t i : ℕ) (c : Chain K) (more ls : List (Node K)) (l : Node K) → find n ls ≡ Some l → find i ls ≡ None → find i (splice n (node n t c) more ls) ≡ find i more
-  find_splice_more n t i c more [] l e f = absurd (none_some e)
+  find_splice_more n t i c more [] l e f = absurd (none-some _ e)
   find_splice_more n t i c more (y ∷ ls) l e f =
       let o = missing_head i y ls f in
       ⊎_elim (λ q. let z : eqb i n ≡ false = rw (eqb-true n y.slot q.0) o in rw q.0 (rw z (find_beside i more ls (find_missing i y ls f))))
@@ -151,10 +151,10 @@ module _ {K : Type 0} (before : K → K → Bool) (top : Item K) where
       spots_kept j f o a b = (head_old j other ∙ a, ⊎_elim (λ z. z ∙ b) (λ z. absurd (not_mine z)) (leaf_old j other))
         where
           other : eqb j n ≡ false
-          other = ne_eqb j n (λ z. none_some (sym b ∙ ap (λ (i : ℕ). find i w.leaves) z ∙ found))
+          other = ne_eqb j n (λ z. none-some _ (sym b ∙ ap (λ (i : ℕ). find i w.leaves) z ∙ found))
 
           not_mine : Arrived j → ⊥
-          not_mine z = let r = z.reveals in r.unheld u it at_u works (ap own (some_same (sym r.there ∙ ap (head_at m.slots) z.slot ∙ a)) ∙ o)
+          not_mine z = let r = z.reveals in r.unheld u it at_u works (ap own (same_Some _ _ (sym r.there ∙ ap (head_at m.slots) z.slot ∙ a)) ∙ o)
 
       kept : Kept before (view m w own) (view installed next own') u
       kept = record {
@@ -186,7 +186,7 @@ module _ {K : Type 0} (before : K → K → Bool) (top : Item K) where
     leaf_stamps_lem j y e = ⊎_elim (λ z. here (eqb-true j n z)) (λ z. ⊎_elim other arrived (leaf_old j z)) (cases_Bool (eqb j n))
       where
         new : (a : Node K) → find j next.leaves ≡ Some a → a.stamp ≡ w.clock → y.stamp < suc w.clock
-        new a f t = let s : y.stamp ≡ a.stamp = ap (λ (v : Node K). v.stamp) (some_same (sym e ∙ f)) in omega arith
+        new a f t = let s : y.stamp ≡ a.stamp = ap (λ (v : Node K). v.stamp) (same_Some _ _ (sym e ∙ f)) in omega arith
 
         here : j ≡ n → y.stamp < suc w.clock
         here z = new (node n w.clock c) (ap (λ (i : ℕ). find i next.leaves) z ∙ leaf_new) refl

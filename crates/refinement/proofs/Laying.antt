@@ -1,6 +1,8 @@
 -- a frame is taken and filled with items
 use Rattle.std.proofs.Common.{◌≡◌, ℕ, ◌+◌, ◌*◌, ◌<◌, ◌≤◌, Bool, true, false, eqb, ◌⊎◌, List, length, Some, Option, sym, refl, ap, ◌∙◌, subst, inl, inr, ⊎_elim, arith, length-set}
 use Rattle.std.specs.List.{slice_get}
+use Rattle.std.proofs.lemmas.List.{map-set}
+use Rattle.std.proofs.lemmas.Option.{slice_get_within}
 use Rattle.std.proofs.lemmas.Bool.{both_ways, cases_order, eqb-false, le-leb, ne_eqb}
 use Rattle.nodes.specs.declared.node.Attributes.{Attributes}
 use Rattle.nodes.specs.declared.node.Frame.{Frame}
@@ -19,7 +21,7 @@ use Rattle.laws.specs.Worlds.{World}
 use Rattle.refinement.specs.Relation.{busy, Owner, Free, Chained, Held, Group, waits_for, Reachable, states_of, view, Grouped, Related}
 use Rattle.refinement.specs.Resolved.{Ground, store_of, laid, carried, Framed, Resolved, base, on}
 use Rattle.refinement.proofs.Moves.{Kept, seat_kept, slot_kept}
-use Rattle.refinement.proofs.Places.{items_other, items_own, keys_of, length_puts, map_set, nth_below, nth_map, nth_set_cases, nth_set_other, nth_set_same, values_of}
+use Rattle.refinement.proofs.Places.{items_other, items_own, keys_of, length_puts, nth_map, nth_set_cases, nth_set_other, nth_set_same, values_of}
 use Rattle.refinement.proofs.Pooling.{unwaited as unwaited_frame}
 use Rattle.refinement.proofs.Resolving.{resolved_weaker}
 use Rattle.refinement.proofs.Taking.{Mine, mine_chained, mine_group, mine_seen, owned, owned_keep}
@@ -36,7 +38,7 @@ module _ {K : Type 0} (before : K → K → Bool) (top : Item K) (m : Memory K) 
   taken = owned own (heads.Frame f) (Held s)
 
   bounds_other : (j : ℕ) → eqb j f ≡ false → slice_get (store_of laid_out).attributes j ≡ slice_get (store_of m).attributes j
-  bounds_other j q = ap (λ (t : List (Attributes K)). slice_get t j) (map_set (λ (x : Frame K). x.attributes) m.frames f full) ∙ nth_set_other (store_of m).attributes f j a q
+  bounds_other j q = ap (λ (t : List (Attributes K)). slice_get t j) (map-set (λ (x : Frame K). x.attributes) m.frames f full) ∙ nth_set_other (store_of m).attributes f j a q
 
   long_keys : length laid_out.keys ≡ length m.keys
   long_keys = length_puts m.keys (place_of f) (keys_of ys)
@@ -74,7 +76,7 @@ module _ {K : Type 0} (before : K → K → Bool) (top : Item K) (m : Memory K) 
   seen_laid u (Held t) p = p
   seen_laid u (Group j) p =
       let q : eqb j f ≡ false = ne_eqb j f (λ e. both_ways (waits_for (slice_get (states_of m.frames) f) u) (unwaited u) (subst (λ (i : ℕ). waits_for (slice_get (states_of m.frames) i) u ≡ true) e p)) in
-      ap (λ (t : List FrameState). waits_for (slice_get t j) u) (map_set (λ (x : Frame K). x.state) m.frames f full) ∙ ap (λ (o : Option FrameState). waits_for o u) (nth_set_other (states_of m.frames) f j states.Used q) ∙ p
+      ap (λ (t : List FrameState). waits_for (slice_get t j) u) (map-set (λ (x : Frame K). x.state) m.frames f full) ∙ ap (λ (o : Option FrameState). waits_for o u) (nth_set_other (states_of m.frames) f j states.Used q) ∙ p
 
   abbrev SeenNow : ℕ → Owner → Type 0
   SeenNow u o = Reachable (states_of laid_out.frames) u o
@@ -94,10 +96,10 @@ module _ {K : Type 0} (before : K → K → Bool) (top : Item K) (m : Memory K) 
   }
 
   used_waiting : (marks : List Bool) (h : Head) (n : ℕ) → states.Used ≡ states.Waiting marks h n → ⊥
-  used_waiting marks h n q = let z : ◌≡◌ {A = ℕ} 0 1 = cc in omega arith
+  used_waiting marks h n q = grind arith
 
   used_free : states.Used ≡ states.Free → ⊥
-  used_free q = let z : ◌≡◌ {A = ℕ} 0 1 = cc in omega arith
+  used_free q = grind arith
 
   pub related_laid : ((u : ℕ) (it : Seat K) → slice_get m.seats u ≡ Some it → busy it.phase ≡ true → own (heads.Frame f) ≡ Held u → ⊥) → Related before top laid_out w taken
   related_laid others = record {
@@ -137,9 +139,9 @@ module _ {K : Type 0} (before : K → K → Bool) (top : Item K) (m : Memory K) 
   -- the frame holds what was written
   pub framed_here : (g : Ground K) (l h : Option K) (r : Option ℕ) (xs : List (Item K)) → ys ≡ laid g xs → a ≡ carried g (Base l h r xs) → ascends before xs ≡ true → Framed before g (store_of laid_out) f l h r xs
   framed_here g l h r xs e b o =
-      let place = nth_below m.frames f x₀ there in
+      let place = slice_get_within m.frames f x₀ there in
       record {
-        bounds = ap (λ (t : List (Attributes K)). slice_get t f) (map_set (λ (x : Frame K). x.attributes) m.frames f full) ∙ nth_set_same (store_of m).attributes f a x₀.attributes (nth_map (λ (x : Frame K). x.attributes) m.frames f x₀ there) ∙ ap Some b;
+        bounds = ap (λ (t : List (Attributes K)). slice_get t f) (map-set (λ (x : Frame K). x.attributes) m.frames f full) ∙ nth_set_same (store_of m).attributes f a x₀.attributes (nth_map (λ (x : Frame K). x.attributes) m.frames f x₀ there) ∙ ap Some b;
         within = within_same f ∙ in_arrays_lem place;
         items = subst (λ (zs : List (Item K)). items_from laid_out.keys laid_out.values (place_of f) (length zs) ≡ Some zs) e (items_own m.keys m.values (place_of f) ys (omega (arith, related.sized.keys)) (omega (arith, related.sized.values)));
         small = subst (λ (zs : List (Item K)). length zs ≤ 64) e small;

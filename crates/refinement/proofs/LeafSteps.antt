@@ -19,8 +19,9 @@ use Rattle.laws.specs.Acts.{act, build as build_act}
 use Rattle.laws.specs.Calls.{perform}
 use Rattle.laws.specs.Theorem.{impossible}
 use Rattle.laws.specs.Worlds.{Granted, Node, Phase as Place, World}
+use Rattle.laws.proofs.Items.{never}
 use Rattle.refinement.specs.Following.{Follows, Measured, LeafStepsFollow, is_there, keeps_leaves, on_one_leaf}
-use Rattle.refinement.specs.Relation.{Owner, view, Snapshot, PhaseAs, idle, root_read, root_walk, leaf_read, leaf_walk, build, root_build, putting, making, root_making, splitting, post_read, post_swap, Related}
+use Rattle.refinement.specs.Relation.{Owner, view, Snapshot, PhaseAs, idle, root_read, root_walk, leaf_read, leaf_walk, build, putting, making, Related}
 use Rattle.refinement.proofs.Reading.{carried_leaf, not_impossible, root_read_lem, root_walk_lem, leaf_read_lem}
 use Rattle.refinement.specs.Resolved.{Leaf}
 use Rattle.refinement.proofs.Building.{leaf_consolidation}
@@ -28,7 +29,7 @@ use Rattle.refinement.proofs.Replacing.{frame_swap}
 use Rattle.refinement.proofs.Resolving.{attributes_read}
 use Rattle.refinement.proofs.Sitting.{follows_by}
 use Rattle.refinement.proofs.Swapping.{record_swap}
-use Rattle.refinement.proofs.Walking.{leaf_walk_lem, never}
+use Rattle.refinement.proofs.Walking.{leaf_walk_lem}
 
 module _ {K : Type 0} (before : K → K → Bool) (law : Lawful K before) (top : Item K) (m : Memory K) (w : World K) (own : Head → Owner) (related : Related before top m w own) (measured : Measured before top w)
     (s : ℕ) (it : Seat K) (at_s : slice_get m.seats s ≡ Some it) (same : it.request ≡ (w.seats s).request)
@@ -52,13 +53,9 @@ module _ {K : Type 0} (before : K → K → Bool) (law : Lawful K before) (top :
   by_phase r p q (leaf_walk x c) e i = leaf_walk_lem before top m w own related s it at_s same granted grants x c i
   by_phase r p q (build {n = n} {h = h} x) e i =
       follows_by before top (ap (λ (y : Request K). bind (attributes_in m.records m.frames h) (λ a. build_for before m s it n h a y)) same) (leaf_build x (w.seats s).request e i)
-  by_phase r p q (root_build x) e i = never e
   by_phase r p q (putting x d o z) e i = record_swap before top m w own related s it at_s same x d o z i
   by_phase r p q (making x d o) e i = frame_swap before top m w own related s it at_s same x d o
-  by_phase r p q (root_making x c d o) e i = never e
-  by_phase r p q (splitting d x a o b k v o' n c f o'' t l z) e i = never e
-  by_phase r p q (post_read d a b c o) e i = never e
-  by_phase r p q (post_swap x d o) e i = never e
+  by_phase r p q _ e i = never e
 
 pub leaf_steps_follow : {K : Type 0} (before : K → K → Bool) → Lawful K before → LeafStepsFollow before
 leaf_steps_follow before law top m w own related measured s it at_s e g h k i =

@@ -1,6 +1,7 @@
 -- an ending: the seat leaves all waits, and what then waits for nobody is free
 use Rattle.std.proofs.Common.{◌≡◌, ℕ, zero, suc, ◌+◌, ◌<◌, Bool, true, false, cond, eqb, ◌⊎◌, List, [], ◌∷◌, length, get_or, set, Some, None, Option, sym, refl, ap, ◌∙◌, subst, inl, inr, ⊎_elim, add-one, arith}
 use Rattle.std.specs.List.{slice_get}
+use Rattle.std.proofs.lemmas.Option.{same_Some, slice_get_within}
 use Rattle.std.proofs.lemmas.Bool.{cases_Bool, both_ways, eqb-true, eq-eqb, ne_eqb, or_left, or_right}
 use Rattle.std.proofs.lemmas.Bool.Decides.{nat_tests}
 use Rattle.nodes.specs.declared.node.Delta.{Delta}
@@ -11,7 +12,6 @@ use Rattle.nodes.specs.declared.node.Head.{Head}
 use Rattle.nodes.specs.declared.node.Head.TheVariants as heads
 use Rattle.nodes.specs.declared.node.Item.{Item}
 use Rattle.nodes.specs.declared.node.Record.{Record}
-use Rattle.nodes.proofs.Ranges.{some_same}
 use Rattle.pool.specs.Free.{free_chain, freed}
 use Rattle.pool.specs.Waits.{Pools, anyone, state_set, waits_on, left_state, left_frame, leaves}
 use Rattle.bwtree.specs.declared.answer.End.{End}
@@ -23,7 +23,7 @@ use Rattle.laws.specs.Chains.{Chain}
 use Rattle.laws.specs.Worlds.{World, Idle}
 use Rattle.refinement.specs.Resolved.{Store, Ground, store_of, deltas_of, carried, delta_over, Resolved, base, on}
 use Rattle.refinement.specs.Following.{Follows}
-use Rattle.refinement.proofs.Places.{nth_below, nth_map, nth_of_map, nth_set_same, nth_set_cases, map_set_same}
+use Rattle.refinement.proofs.Places.{nth_map, nth_of_map, nth_set_same, nth_set_cases, map_set_same}
 use Rattle.refinement.specs.Relation.{busy, Owner, Free, Chained, Held, Group, waits_for, Reachable, states_of, Grouped, Related}
 use Rattle.refinement.proofs.Pooling.{restated, state_same, state_other, pooled, related_pooled}
 use Rattle.refinement.proofs.Sitting.{related_idle}
@@ -90,16 +90,13 @@ module _ {K : Type 0} (before : K → K → Bool) where
       here x (inr y) = inr y
       here x (inl y) = ⊎_elim (λ b. inr (subst (λ (n : ℕ). P (heads.Record n)) (sym b.0) p)) (λ b. inl (y.0, b.1, y.2)) (nth_set_cases rs i j (freed x) y.0 y.1)
 
-free_waiting : (marks : List Bool) (h : Head) (n : ℕ) → states.Waiting marks h n ≡ states.Free → ⊥
-free_waiting marks h n q = let z : ◌≡◌ {A = ℕ} 0 1 = cc in omega arith
-
 -- ---- a seat leaves the waits of one frame
 
 module _ {K : Type 0} (before : K → K → Bool) (top : Item K) (m : Memory K) (w : World K) (s : ℕ) (it : Seat K) (at_s : slice_get m.seats s ≡ Some it) (seat_idle : it.phase ≡ phases.Idle) where
   -- a busy seat is another
   pub busy_other : (u : ℕ) (x : Seat K) → slice_get m.seats u ≡ Some x → busy x.phase ≡ true → eqb u s ≡ false
   busy_other u x e o = ne_eqb u s (λ q.
-      let d : x ≡ it = some_same (sym e ∙ ap (slice_get m.seats) q ∙ at_s) in
+      let d : x ≡ it = same_Some _ _ (sym e ∙ ap (slice_get m.seats) q ∙ at_s) in
       both_ways (busy x.phase) (ap (λ (y : Seat K). busy y.phase) d ∙ ap busy seat_idle) o)
 
   pub record Left (p : Pools K) : Type 0 where
@@ -131,7 +128,7 @@ module _ {K : Type 0} (before : K → K → Bool) (top : Item K) (m : Memory K) 
       held = λ u z e o y r. r;
       free_records = related.free_records;
       free_frames = λ j q e. e;
-      free_here = λ q. absurd (free_waiting (set marks s false) h n q);
+      free_here = λ q. absurd (grind (arith, q));
       groups = λ j q y e. e;
       group_here = λ marks' h' n' q. same marks' h' n' q;
     })
@@ -162,11 +159,11 @@ module _ {K : Type 0} (before : K → K → Bool) (top : Item K) (m : Memory K) 
           free_frames = λ j q e. rw e refl;
           free_here = λ q. gone_here f (own (heads.Frame f)) g.frame;
           groups = λ j q y e. gone_other f j (own y) q e;
-          group_here = λ marks' h' n' q. absurd (free_waiting marks' h' n' (sym q));
+          group_here = λ marks' h' n' q. absurd (grind (arith, q));
         })
       where
         seat_number : (u : ℕ) (z : Seat K) → slice_get m.seats u ≡ Some z → u < 4
-        seat_number u z e = let l = nth_below m.seats u z e in omega (arith, related.sized.seats)
+        seat_number u z e = let l = slice_get_within m.seats u z e in omega (arith, related.sized.seats)
 
         was_free : (i : ℕ) → ((y : Record K) × (slice_get p.records i ≡ Some y) × (y.free ≡ true)) ⊎ (own (heads.Record i) ≡ Group f) → gone f (own (heads.Record i)) ≡ Free
         was_free i (inl y) = rw (related.free_records i y.0 y.1 y.2) refl

@@ -1,6 +1,7 @@
 -- what a rule does to memory leaves the lengths of its lists, so that memory that fits the sizes still does
 use Rattle.std.proofs.Common.{◌≡◌, ℕ, zero, suc, Bool, true, false, cond, not, ◌&&◌, eqb, leb, List, length, drop, set, Some, None, Option, sym, refl, ap, ◌∙◌, length-set}
 use Rattle.std.specs.List.{slice_get}
+use Rattle.std.proofs.lemmas.Option.{none-some, same_Some}
 use Rattle.nodes.specs.declared.build.Source.{Source}
 use Rattle.nodes.specs.declared.node.Frame.{Frame}
 use Rattle.nodes.specs.declared.node.FrameState.{FrameState}
@@ -13,7 +14,6 @@ use Rattle.nodes.specs.declared.node.Record.{Record}
 use Rattle.nodes.specs.Build.{Arrays, built, in_frame, items_of, source_of}
 use Rattle.nodes.specs.Chains.{bind}
 use Rattle.nodes.specs.Frames.{in_arrays, place_of}
-use Rattle.nodes.proofs.Ranges.{none_some, some_same}
 use Rattle.pool.specs.Free.{free_chain, freed}
 use Rattle.pool.specs.Waits.{Pools, anyone, leaves, left_frame, left_state, set_state, state_set, waits_on}
 use Rattle.bwtree.specs.declared.seat.Seat.{Seat}
@@ -117,14 +117,14 @@ module _ {K : Type 0} where
           }
 
       test : (xs : List (Item K)) (b : Bool) → cond b (Some (in_frame m.keys m.values f (drop first xs))) None ≡ Some a → SameLengths m (with_arrays m a)
-      test xs true q = filled xs (some_same q)
-      test xs false q = absurd (none_some q)
+      test xs true q = filled xs (same_Some _ _ q)
+      test xs false q = absurd (none-some _ q)
 
       go : (o : Option Source) (p : Option (List (Item K)))
           → bind o (λ s. bind p (λ xs. cond (not (eqb s.frame f) && (eqb (length xs) s.count && (leb s.count 64 && in_arrays m.keys m.values f))) (Some (in_frame m.keys m.values f (drop first xs))) None)) ≡ Some a
           → SameLengths m (with_arrays m a)
-      go None p q = absurd (none_some q)
-      go (Some s) None q = absurd (none_some q)
+      go None p q = absurd (none-some _ q)
+      go (Some s) None q = absurd (none-some _ q)
       go (Some s) (Some xs) q = test xs _ q
 
   -- memory of the same lengths fits the same sizes

@@ -1,6 +1,8 @@
 -- a loaded index stands for the start with its entries
 use Rattle.std.proofs.Common.{◌≡◌, ℕ, zero, suc, ◌+◌, ◌-◌, ◌*◌, ◌<◌, ◌≤◌, min, Bool, true, false, cond, eqb, leb, List, [], ◌∷◌, map, length, take, drop, set, Some, None, Option, sym, refl, ap, ◌∙◌, subst, inl, inr, ⊎_elim, arith, length-set, take-append-drop, length-take}
 use Rattle.std.specs.List.{slice_get}
+use Rattle.std.proofs.lemmas.List.{length-map}
+use Rattle.std.proofs.lemmas.Option.{none-some, same_Some}
 use Rattle.std.proofs.lemmas.Bool.{both_ways, cases_lt, le-leb, lt-leb, ne_eqb}
 use Rattle.image.specs.declared.entry.Entry.{Entry}
 use Rattle.nodes.specs.declared.node.Frame.{Frame}
@@ -13,8 +15,8 @@ use Rattle.nodes.specs.Build.{puts}
 use Rattle.nodes.specs.Chains.{bind}
 use Rattle.nodes.specs.Frames.{in_arrays, item_at, items_from, place_of}
 use Rattle.nodes.specs.Items.{ascends}
-use Rattle.nodes.proofs.Items.{ascending_from}
-use Rattle.nodes.proofs.Ranges.{items_open, none_some, some_same}
+use Rattle.nodes.proofs.ItemLists.{ascending_from}
+use Rattle.nodes.proofs.Ranges.{items_open}
 use Rattle.nodes.proofs.Writes.{puts_other}
 use Rattle.pool.specs.Free.{freed, free_frame}
 use Rattle.bwtree.specs.declared.seat.Seat.{Seat}
@@ -32,7 +34,7 @@ use Rattle.refinement.specs.Relation.{Chained, Free, Related, SeatAs, SlotAs, em
 use Rattle.refinement.specs.Resolved.{Leaf, Root, Framed, Resolved, base, carried, store_of}
 use Rattle.refinement.proofs.Numbered.{Lengths, length_numbered, lengths, nth_numbered}
 use Rattle.refinement.proofs.Parting.{after_is, find_leaf, find_past, first_key_lem, head_key, items_after, leaf_items, leaf_of, leaf_found_lem, leaves_from, length_after, length_separators, low_key_lem, low_key, separators_start, start_items, start_leaves}
-use Rattle.refinement.proofs.Places.{items_other, items_own, keys_of, length_map, length_puts, nth_map, nth_of_map, nth_set_other, nth_set_there, nth_there, values_of}
+use Rattle.refinement.proofs.Places.{items_other, items_own, keys_of, length_puts, nth_map, nth_of_map, nth_set_other, nth_set_there, nth_there, values_of}
 
 -- whether a frame waits
 abbrev waits : FrameState → Bool
@@ -107,8 +109,8 @@ module _ {K : Type 0} (before : K → K → Bool) (m : Memory K) (es : List (Ent
   frame_made f x e = go (slice_get m.frames f) (sym (nth_numbered (frame_at es) m.frames f) ∙ e)
     where
       go : (o : Option (Frame K)) → bind o (λ (y : Frame K). Some (frame_at es f y)) ≡ Some x → (y : Frame K) × (x ≡ frame_at es f y)
-      go None q = absurd (none_some q)
-      go (Some y) q = (y, sym (some_same q))
+      go None q = absurd (none-some _ q)
+      go (Some y) q = (y, sym (same_Some _ _ q))
 
   frame_there : (f : ℕ) → f ≤ count → (y : Frame K) × (slice_get (store_of made).attributes f ≡ Some (frame_at es f y).attributes)
   frame_there f l =
@@ -161,7 +163,7 @@ module _ {K : Type 0} (before : K → K → Bool) (m : Memory K) (es : List (Ent
       let k = long.keys in
       let v = long.values in
       let f = long.frames in
-      let n = length_map item_of es in
+      let n = length-map es item_of in
       let s = length_separators es in
       let few = long.few in
       let own = items_own m.keys m.values 64 (map item_of es) (omega arith) (omega arith) in
@@ -277,10 +279,10 @@ module _ {K : Type 0} (before : K → K → Bool) (m : Memory K) (es : List (Ent
         free_frames = λ f x e q. let z = frame_made f x e in free_made f z.0 (ap (λ (y : Frame K). y.state) (sym z.1) ∙ q);
         groups = λ f x marks h n e q. let z = frame_made f x e in absurd (both_ways (waits x.state) (ap (λ (y : Frame K). waits y.state) z.1 ∙ none_waits f z.0) (ap waits q));
         sized = record {
-          records = (let a = long.records in omega (arith, length_map freed m.records));
+          records = (let a = long.records in omega (arith, length-map m.records freed));
           keys = length_keys ∙ long.keys ∙ ap (λ (n : ℕ). 64 * n) (sym (length_numbered (frame_at es) 0 m.frames));
           values = length_values ∙ long.values ∙ ap (λ (n : ℕ). 64 * n) (sym (length_numbered (frame_at es) 0 m.frames));
-          seats = length_map (λ (x : Seat K). fresh_seat) m.seats ∙ long.seats;
+          seats = length-map m.seats (λ (x : Seat K). fresh_seat) ∙ long.seats;
         };
       }
 

@@ -1,7 +1,7 @@
 -- lists whose elements were changed by their number, and the lengths of the arrays of an index
 use Rattle.std.proofs.Common.{◌≡◌, ℕ, zero, suc, ◌+◌, ◌*◌, ◌<◌, ◌≤◌, true, ◌&&◌, eqb, leb, List, [], ◌∷◌, length, Some, refl, ap, ◌∙◌, arith}
 use Rattle.std.specs.List.{slice_get}
-use Rattle.std.proofs.lemmas.Bool.{and_from, and_parts, eqb-true, leb-true}
+use Rattle.std.proofs.lemmas.Bool.{and_parts, eqb-true, leb-true}
 use Rattle.nodes.specs.Chains.{bind}
 use Rattle.bwtree.specs.declared.sizes.Sizes.{Sizes}
 use Rattle.bwtree.specs.Memory.{Memory}
@@ -61,12 +61,3 @@ lengths z m n l e h =
       values = omega arith;
       seats = eqb-true _ _ f.1;
     }
-
--- lawful sizes have room for no entries, so that a new index is a loaded one
-pub room_for_none : (z : Sizes) → lawful_sizes z ≡ true → has_room z 0 ≡ true
-room_for_none z l =
-    let p = and_parts (leb 2 z.slots && leb z.slots 65) _ l in
-    let q = and_parts (leb 2 z.slots) _ p.0 in
-    let r = and_parts (leb 1 z.records && leb z.records 4096) _ p.1 in
-    let t = and_parts (leb 2 z.frames) _ r.1 in
-    and_from (leb 2 z.slots) (leb 2 z.frames) q.0 t.0

@@ -2,7 +2,7 @@
 -- number
 use Rattle.std.proofs.Common.{◌≡◌, ℕ, zero, suc, ◌+◌, ◌-◌, ◌*◌, ◌<◌, ◌≤◌, ◌⊎◌, List, [], ◌∷◌, ◌++◌, map, length, take, drop, Some, None, Option, sym, refl, ap, ◌∙◌, inl, inr, ⊎_elim, append-nil, arith, length-drop, take-append-drop, length-take}
 use Rattle.std.specs.List.{slice_get, AllByRecursion}
-use Rattle.std.proofs.lemmas.List.{drop-drop, nil_from_length}
+use Rattle.std.proofs.lemmas.List.{drop-drop, nil_from_length, length-map}
 use Rattle.std.proofs.lemmas.Bool.{cases_eq, eq-eqb, ne_eqb}
 use Rattle.image.specs.declared.entry.Entry.{Entry}
 use Rattle.nodes.specs.declared.node.Item.{Item}
@@ -13,7 +13,6 @@ use Rattle.laws.specs.Theorem.{Part, all_items, leaves_of, separator, start, Lea
 use Rattle.laws.specs.Worlds.{Node, find}
 use Rattle.laws.proofs.Leaves.{all_find}
 use Rattle.refinement.proofs.LoadedParts.{first_part, other_parts, parts_from}
-use Rattle.refinement.proofs.Places.{length_map}
 
 -- ---- what the theorem of the index without memory asks of a start
 
@@ -48,7 +47,7 @@ module _ {K : Type 0} where
   pub start_items : (es : List (Entry K)) → all_items (first_part es) (other_parts es) ≡ map item_of es
   start_items es =
       let d = length-drop 64 (map item_of es) in
-      let e = length_map item_of es in
+      let e = length-map es item_of in
       parts_all (leaves_for (length es) - 1) 2 (first_part es) (drop 64 (map item_of es)) (omega arith) ∙ take-append-drop 64 (map item_of es)
 
   pub start_fits : (es : List (Entry K)) → LeavesFit (first_part es) (other_parts es)
@@ -93,7 +92,7 @@ module _ {K : Type 0} where
 
     pub length_after : (i : ℕ) → length (items_after i) ≡ length es - 64 * i
     unfolding items_after
-    length_after i = let e = length_map item_of es in let d = length-drop (64 * i) (map item_of es) in omega arith
+    length_after i = let e = length-map es item_of in let d = length-drop (64 * i) (map item_of es) in omega arith
 
     pub first_key_lem : (i : ℕ) → first_key es (suc i) ≡ head_key (items_after i)
     unfolding items_after
@@ -144,7 +143,7 @@ module _ {K : Type 0} where
     pub length_separators : length (separators_from es 2 (leaves_for (length es) - 1)) ≡ leaves_for (length es) - 1
     length_separators =
         let a = length_after 1 in
-        ap length (separators_are (leaves_for (length es) - 1) 0) ∙ length_map separator (parts_from (leaves_for (length es) - 1) 2 (items_after 1)) ∙ length_parts (leaves_for (length es) - 1) 2 (items_after 1) (omega arith)
+        ap length (separators_are (leaves_for (length es) - 1) 0) ∙ length-map (parts_from (leaves_for (length es) - 1) 2 (items_after 1)) separator ∙ length_parts (leaves_for (length es) - 1) 2 (items_after 1) (omega arith)
 
     parts_are : other_parts es ≡ parts_from (leaves_for (length es) - 1) 2 (items_after 1)
     parts_are = ap (parts_from (leaves_for (length es) - 1) 2) (ap (drop 64) (sym after_none) ∙ after_next 0)

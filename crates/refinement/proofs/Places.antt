@@ -1,6 +1,9 @@
 -- lists read at a place after a write, item arrays after a frame was filled, and the search for a free place
 use Rattle.std.proofs.Common.{◌≡◌, ℕ, zero, suc, ◌+◌, ◌<◌, ◌≤◌, Bool, true, false, eqb, ◌⊎◌, List, [], ◌∷◌, map, length, take, drop, set, Some, None, Option, sym, refl, ap, ◌∙◌, subst, inl, inr, ⊎_elim, arith, length-set}
 use Rattle.std.specs.List.{slice_get}
+use Rattle.std.specs.Option.{option_map}
+use Rattle.std.proofs.lemmas.List.{length-map}
+use Rattle.std.proofs.lemmas.Option.{none-some, same_Some, slice_get_within, slice_get-map}
 use Rattle.std.proofs.lemmas.Bool.{cases_Bool, both_ways, eqb-true, eq-eqb, ne_eqb}
 use Rattle.std.proofs.lemmas.Bool.Decides.{nat_tests}
 use Rattle.nodes.specs.declared.node.Head.{Head}
@@ -9,7 +12,6 @@ use Rattle.nodes.specs.declared.node.Item.{Item}
 use Rattle.nodes.specs.Build.{puts}
 use Rattle.nodes.specs.Frames.{items_from}
 use Rattle.nodes.specs.Items.{or_else}
-use Rattle.nodes.proofs.Ranges.{none_some, some_same}
 use Rattle.nodes.proofs.Writes.{puts_other}
 use Rattle.pool.specs.Free.{first_in, next_free, other_free}
 use Rattle.bwtree.specs.Swaps.{same_head}
@@ -24,14 +26,9 @@ nth_set_other (y ∷ ys) (suc i) zero x e = refl
 nth_set_other (y ∷ ys) (suc i) (suc j) x e = nth_set_other ys i j x (grind (arith, nat_tests))
 
 pub nth_set_same : {X : Type 0} (xs : List X) (i : ℕ) (x y : X) → slice_get xs i ≡ Some y → slice_get (set xs i x) i ≡ Some x
-nth_set_same [] i x y e = absurd (none_some e)
+nth_set_same [] i x y e = absurd (none-some _ e)
 nth_set_same (z ∷ zs) zero x y e = refl
 nth_set_same (z ∷ zs) (suc i) x y e = nth_set_same zs i x y e
-
-pub nth_below : {X : Type 0} (xs : List X) (i : ℕ) (y : X) → slice_get xs i ≡ Some y → i < length xs
-nth_below [] i y e = absurd (none_some e)
-nth_below (z ∷ zs) zero y e = omega arith
-nth_below (z ∷ zs) (suc i) y e = let h = nth_below zs i y e in omega arith
 
 pub nth_there : {X : Type 0} (xs : List X) (i : ℕ) → i < length xs → (y : X) × (slice_get xs i ≡ Some y)
 nth_there [] i l = absurd (omega arith)
@@ -48,38 +45,27 @@ nth_set_cases xs i j x y e = ⊎_elim (λ q. inl (at (eqb-true j i q))) (λ q. i
     at : j ≡ i → (j ≡ i) × (y ≡ x)
     at q =
         let h : slice_get (set xs i x) i ≡ Some y = rw q at e in
-        let b = nth_below (set xs i x) i y h in
+        let b = slice_get_within (set xs i x) i y h in
         let d = nth_set_there xs i x (omega (arith, simp length-set at b)) in
-        (q, some_same (sym h ∙ d))
+        (q, same_Some _ _ (sym h ∙ d))
 
 -- ---- a field of each element
 
 module _ {X Y : Type 0} (field : X → Y) where
   pub nth_map : (xs : List X) (i : ℕ) (x : X) → slice_get xs i ≡ Some x → slice_get (map field xs) i ≡ Some (field x)
-  nth_map [] i x e = absurd (none_some e)
-  nth_map (z ∷ zs) zero x e = ap (λ (w : X). Some (field w)) (some_same e)
-  nth_map (z ∷ zs) (suc i) x e = nth_map zs i x e
+  nth_map xs i x e = slice_get-map field xs i ∙ ap (option_map field) e
 
   -- an element whose field is known
   pub nth_of_map : (xs : List X) (i : ℕ) (y : Y) → slice_get (map field xs) i ≡ Some y → (x : X) × (slice_get xs i ≡ Some x) × (field x ≡ y)
-  nth_of_map [] i y e = absurd (none_some e)
-  nth_of_map (z ∷ zs) zero y e = (z, refl, some_same e)
+  nth_of_map [] i y e = absurd (none-some _ e)
+  nth_of_map (z ∷ zs) zero y e = (z, refl, same_Some _ _ e)
   nth_of_map (z ∷ zs) (suc i) y e = nth_of_map zs i y e
-
-  pub map_set : (xs : List X) (i : ℕ) (x : X) → map field (set xs i x) ≡ set (map field xs) i (field x)
-  map_set [] i x = refl
-  map_set (z ∷ zs) zero x = refl
-  map_set (z ∷ zs) (suc i) x = ap (λ (t : List Y). field z ∷ t) (map_set zs i x)
 
   -- an element that keeps its field
   pub map_set_same : (xs : List X) (i : ℕ) (x y : X) → slice_get xs i ≡ Some y → field x ≡ field y → map field (set xs i x) ≡ map field xs
   map_set_same [] i x y e h = refl
-  map_set_same (z ∷ zs) zero x y e h = ap (λ (w : Y). w ∷ map field zs) (h ∙ ap field (sym (some_same e)))
+  map_set_same (z ∷ zs) zero x y e h = ap (λ (w : Y). w ∷ map field zs) (h ∙ ap field (sym (same_Some _ _ e)))
   map_set_same (z ∷ zs) (suc i) x y e h = ap (λ (t : List Y). field z ∷ t) (map_set_same zs i x y e h)
-
-  pub length_map : (xs : List X) → length (map field xs) ≡ length xs
-  length_map [] = refl
-  length_map (z ∷ zs) = ap suc (length_map zs)
 
 -- ---- heads
 
@@ -114,8 +100,8 @@ module _ {K : Type 0} where
       → items_from (puts ks p (keys_of xs)) (puts vs p (values_of xs)) q n ≡ items_from ks vs q n
   items_other ks vs p q zero xs a = refl
   items_other ks vs p q (suc n) xs a =
-      let key : (q < p) ⊎ (p + length (keys_of xs) ≤ q) = ⊎_elim (λ h. inl (omega arith)) (λ h. inr (omega (arith, length_map (λ (x : Item K). x.key) xs))) a in
-      let val : (q < p) ⊎ (p + length (values_of xs) ≤ q) = ⊎_elim (λ h. inl (omega arith)) (λ h. inr (omega (arith, length_map (λ (x : Item K). x.value) xs))) a in
+      let key : (q < p) ⊎ (p + length (keys_of xs) ≤ q) = ⊎_elim (λ h. inl (omega arith)) (λ h. inr (omega (arith, length-map xs (λ (x : Item K). x.key)))) a in
+      let val : (q < p) ⊎ (p + length (values_of xs) ≤ q) = ⊎_elim (λ h. inl (omega arith)) (λ h. inr (omega (arith, length-map xs (λ (x : Item K). x.value)))) a in
       rw (puts_other (keys_of xs) ks p q key, puts_other (values_of xs) vs p q val, items_other ks vs p (suc q) n xs (⊎_elim (λ h. inl (omega arith)) (λ h. inr (omega arith)) a))
 
   -- items that were written are there
@@ -132,11 +118,11 @@ module _ {K : Type 0} where
 
 module _ {X : Type 0} (test : X → Bool) where
   pub first_at : (xs : List X) (n i : ℕ) → first_in test n xs ≡ Some i → (j : ℕ) × (x : X) × (i ≡ n + j) × (slice_get xs j ≡ Some x) × (test x ≡ true)
-  first_at [] n i e = absurd (none_some e)
+  first_at [] n i e = absurd (none-some _ e)
   first_at (x ∷ xs) n i e = go (first_at xs (suc n) i) (test x) refl
     where
       go : (first_in test (suc n) xs ≡ Some i → (j : ℕ) × (y : X) × (i ≡ suc n + j) × (slice_get xs j ≡ Some y) × (test y ≡ true)) → (b : Bool) → test x ≡ b → (j : ℕ) × (y : X) × (i ≡ n + j) × (slice_get (x ∷ xs) j ≡ Some y) × (test y ≡ true)
-      go ih true q = let h : Some n ≡ Some i = rw q at e in (0, x, (let g : n ≡ i = some_same h in omega arith), refl, q)
+      go ih true q = let h : Some n ≡ Some i = rw q at e in (0, x, (let g : n ≡ i = same_Some _ _ h in omega arith), refl, q)
       go ih false q = let z = ih (rw q at e) in (suc z.0, z.1, (let y = z.2 in omega arith), z.3, z.4)
 
   first_from : (xs : List X) (n i : ℕ) → first_in test n (drop n xs) ≡ Some i → (x : X) × (slice_get xs i ≡ Some x) × (test x ≡ true) × (n ≤ i)
@@ -161,9 +147,9 @@ module _ {X : Type 0} (test : X → Bool) where
   first_front xs n i e = let z = first_whole (take n xs) i e in let y = nth_take xs n i z.0 z.1 in (z.0, y.0, z.2, y.1)
     where
       nth_take : (ys : List X) (m j : ℕ) (y : X) → slice_get (take m ys) j ≡ Some y → (slice_get ys j ≡ Some y) × (j < m)
-      nth_take [] zero j y e = absurd (none_some e)
-      nth_take [] (suc m) j y e = absurd (none_some e)
-      nth_take (z ∷ zs) zero j y e = absurd (none_some e)
+      nth_take [] zero j y e = absurd (none-some _ e)
+      nth_take [] (suc m) j y e = absurd (none-some _ e)
+      nth_take (z ∷ zs) zero j y e = absurd (none-some _ e)
       nth_take (z ∷ zs) (suc m) zero y e = (e, omega arith)
       nth_take (z ∷ zs) (suc m) (suc j) y e = let u = nth_take zs m j y e in (u.0, let v = u.1 in omega arith)
 

@@ -1,6 +1,7 @@
 -- a change of flags, of one frame's state and of owners, where chains stay as they are
 use Rattle.std.proofs.Common.{◌≡◌, ℕ, ◌*◌, Bool, true, false, eqb, List, length, set, Some, Option, sym, refl, ap, ◌∙◌, subst, ⊎_elim, arith, length-set}
 use Rattle.std.specs.List.{slice_get}
+use Rattle.std.proofs.lemmas.List.{length-map, map-set}
 use Rattle.std.proofs.lemmas.Bool.{both_ways, ne_eqb}
 use Rattle.nodes.specs.declared.node.Delta.{Delta}
 use Rattle.nodes.specs.declared.node.Frame.{Frame}
@@ -16,7 +17,7 @@ use Rattle.bwtree.specs.Memory.{Memory, with_pools}
 use Rattle.laws.specs.Chains.{Chain}
 use Rattle.laws.specs.Worlds.{World}
 use Rattle.refinement.specs.Resolved.{Store, Ground, store_of, deltas_of, all_attributes, Framed, Resolved}
-use Rattle.refinement.proofs.Places.{nth_set_other, nth_set_same, nth_set_cases, nth_map, length_map, map_set, map_set_same}
+use Rattle.refinement.proofs.Places.{nth_set_other, nth_set_same, nth_set_cases, nth_map, map_set_same}
 use Rattle.refinement.specs.Relation.{busy, Owner, Free, Chained, Held, Group, waits_for, Reachable, Seen, states_of, view, Grouped, Related}
 use Rattle.refinement.proofs.Moves.{Kept, seat_kept, slot_kept}
 use Rattle.refinement.proofs.Resolving.{resolved_weaker}
@@ -28,7 +29,7 @@ module _ {K : Type 0} where
 
   pub state_same : (frames : List (Frame K)) (f : ℕ) (x : Frame K) (st : FrameState) → slice_get frames f ≡ Some x → slice_get (states_of (restated frames f x st)) f ≡ Some st
   state_same frames f x st e =
-      ap (λ (ss : List FrameState). slice_get ss f) (map_set (λ (y : Frame K). y.state) frames f (with_state x st))
+      ap (λ (ss : List FrameState). slice_get ss f) (map-set (λ (y : Frame K). y.state) frames f (with_state x st))
       ∙ nth_set_same (states_of frames) f st x.state (nth_state frames f x e)
     where
       nth_state : (ys : List (Frame K)) (j : ℕ) (y : Frame K) → slice_get ys j ≡ Some y → slice_get (states_of ys) j ≡ Some y.state
@@ -36,7 +37,7 @@ module _ {K : Type 0} where
 
   pub state_other : (frames : List (Frame K)) (f j : ℕ) (x : Frame K) (st : FrameState) → eqb j f ≡ false → slice_get (states_of (restated frames f x st)) j ≡ slice_get (states_of frames) j
   state_other frames f j x st q =
-      ap (λ (ss : List FrameState). slice_get ss j) (map_set (λ (y : Frame K). y.state) frames f (with_state x st)) ∙ nth_set_other (states_of frames) f j st q
+      ap (λ (ss : List FrameState). slice_get ss j) (map-set (λ (y : Frame K). y.state) frames f (with_state x st)) ∙ nth_set_other (states_of frames) f j st q
 
   -- the memory with other flags, and with a state for frame f
   abbrev pub pooled : Memory K → List (Record K) → ℕ → Frame K → FrameState → Memory K
@@ -122,7 +123,7 @@ module _ {K : Type 0} (before : K → K → Bool) (top : Item K) where
     }
       where
         many : length records ≡ length m.records
-        many = sym (length_map (λ (r : Record K). r.delta) records) ∙ ap length same ∙ length_map (λ (r : Record K). r.delta) m.records
+        many = sym (length-map records (λ (r : Record K). r.delta)) ∙ ap length same ∙ length-map m.records (λ (r : Record K). r.delta)
 
         long : length (restated m.frames f x st) ≡ length m.frames
         long = length-set m.frames f (with_state x st)

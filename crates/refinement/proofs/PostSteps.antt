@@ -11,10 +11,10 @@ use Rattle.bwtree.specs.Steps.{step_for}
 use Rattle.laws.specs.Acts.{act}
 use Rattle.laws.specs.Calls.{perform}
 use Rattle.laws.specs.Worlds.{Granted, Phase as Place, World}
+use Rattle.laws.proofs.Items.{never}
 use Rattle.refinement.specs.Following.{Follows, Measured, PostStepsFollow, on_post}
 use Rattle.refinement.specs.Relation.{Owner, view, PhaseAs, idle as at_idle, root_read, root_walk, leaf_read, leaf_walk, build, root_build, putting, making, root_making, splitting, post_read as at_post_read, post_swap as at_post_swap, Related}
 use Rattle.refinement.proofs.Posting.{post_read_lem, post_swap_lem}
-use Rattle.refinement.proofs.Walking.{never}
 
 module _ {K : Type 0} (before : K → K → Bool) (top : Item K) (m : Memory K) (w : World K) (own : Head → Owner) (related : Related before top m w own) (measured : Measured before top w)
     (s : ℕ) (it : Seat K) (at_s : slice_get m.seats s ≡ Some it) (same : it.request ≡ (w.seats s).request) (granted : Granted) where

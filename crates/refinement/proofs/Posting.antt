@@ -1,6 +1,7 @@
 -- post read and post swap: memory follows the index without memory
 use Rattle.std.proofs.Common.{◌≡◌, ℕ, Bool, true, false, cond, eqb, List, Some, Option, sym, refl, ap, ◌∙◌, subst, inr, arith, set-set}
 use Rattle.std.specs.List.{slice_get}
+use Rattle.std.proofs.lemmas.Option.{same_Some}
 use Rattle.nodes.specs.declared.node.Delta.{Delta}
 use Rattle.nodes.specs.declared.node.Head.{Head}
 use Rattle.nodes.specs.declared.node.Head.TheVariants as heads
@@ -8,7 +9,6 @@ use Rattle.nodes.specs.declared.node.Item.{Item}
 use Rattle.nodes.specs.declared.node.Kind.TheVariants as kinds
 use Rattle.nodes.specs.declared.node.Slot.{Slot}
 use Rattle.nodes.specs.Chains.{bind}
-use Rattle.nodes.proofs.Ranges.{some_same}
 use Rattle.bwtree.specs.declared.answer.End.TheVariants as ends
 use Rattle.bwtree.specs.declared.seat.Phase.TheVariants as phases
 use Rattle.bwtree.specs.declared.seat.Seat.{Seat}
@@ -19,6 +19,7 @@ use Rattle.laws.specs.Acts.{Fails, Goes, Roots, post_swap}
 use Rattle.laws.specs.Calls.{Installed, at, ended as ended_answer, perform, rooted, turn}
 use Rattle.laws.specs.Chains.{Chain, On}
 use Rattle.laws.specs.Worlds.{Idle, Node, PostRead, PostSwap, Seat as Worker, World, sit}
+use Rattle.laws.proofs.Items.{never}
 use Rattle.refinement.specs.Following.{Follows, Measured}
 use Rattle.refinement.specs.Relation.{Owner, Free, Chained, Held, Group, Reachable, head_at, states_of, view, Snapshot, Related, idle as at_idle, post_read as at_post_read, post_swap as at_post_swap}
 use Rattle.refinement.specs.Resolved.{Root, store_of, carried, delta_over, on}
@@ -30,9 +31,9 @@ use Rattle.refinement.proofs.Reading.{root_snapshot}
 use Rattle.refinement.proofs.Resolving.{attributes_read, record_read, resolved_weaker}
 use Rattle.refinement.proofs.Rooting.{current_root, related_rooted}
 use Rattle.refinement.proofs.Sitting.{follows_by, follows_goes, related_idle, related_sit, seated}
-use Rattle.refinement.proofs.Swapping.{held_free, set_other}
-use Rattle.refinement.proofs.Taking.{filled_here, mine_chained, mine_group, mine_held, mine_seen, owned, owned_keep, owned_same, related_filled}
-use Rattle.refinement.proofs.Walking.{delta_put, never}
+use Rattle.refinement.proofs.Swapping.{set_other}
+use Rattle.refinement.proofs.Taking.{filled_here, mine_chained, mine_group, mine_held, mine_seen, owned, owned_keep, owned_same, related_filled, held_free}
+use Rattle.refinement.proofs.Walking.{delta_put}
 
 module _ {K : Type 0} where
   -- of two settings of a seat the later counts
@@ -82,7 +83,7 @@ module _ {K : Type 0} (before : K → K → Bool) (top : Item K) (m : Memory K) 
         let mine = owned own (heads.Record j) (Held s) in
         let after = set_record m j (record { free = false; delta = separator }) in
         let p : Snapshot before (Root top) (view (set_seat after s a) (seated before top w s x) mine) s 0 related.root_head w.root =
-        subst (λ (g : Head). Snapshot before (Root top) (view (set_seat after s a) (seated before top w s x) mine) s 0 g w.root) (some_same (sym q.root_slot ∙ related.root_slot))
+        subst (λ (g : Head). Snapshot before (Root top) (view (set_seat after s a) (seated before top w s x) mine) s 0 g w.root) (same_Some _ _ (sym q.root_slot ∙ related.root_slot))
         (root_snapshot before top (set_seat after s a) (seated before top w s x) mine q (record { leaves = measured.leaves; root = measured.root }) s) in
         let f = related_sit before top (set_seat after s a) (seated before top w s x) mine q s b y (record { request = same; phase = at_post_swap p here (owned_same own (heads.Record j) (Held s)) }) in
         record {

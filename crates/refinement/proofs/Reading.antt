@@ -1,7 +1,8 @@
 -- begin, root read, root walk and leaf read: memory follows the index without memory
-use Rattle.std.proofs.Common.{◌≡◌, ℕ, zero, suc, ◌<◌, ◌≤◌, Bool, true, false, cond, eqb, List, length, Some, None, Option, sym, refl, ap, ◌∙◌, subst, arith}
+use Rattle.std.proofs.Common.{◌≡◌, ℕ, ◌<◌, ◌≤◌, Bool, true, false, cond, eqb, List, length, Some, None, Option, sym, refl, ap, ◌∙◌, subst}
 use Rattle.std.specs.List.{slice_get}
-use Rattle.std.proofs.lemmas.Bool.{both_ways, eq-eqb, ne_eqb}
+use Rattle.std.proofs.lemmas.Option.{none-some, slice_get_within}
+use Rattle.std.proofs.lemmas.Bool.{eq-eqb, true≢false}
 use Rattle.nodes.specs.declared.node.Attributes.{Attributes}
 use Rattle.nodes.specs.declared.node.Delta.{Delta}
 use Rattle.nodes.specs.declared.node.Head.{Head}
@@ -12,7 +13,6 @@ use Rattle.nodes.specs.declared.node.Kind.TheVariants as kinds
 use Rattle.nodes.specs.declared.node.Slot.{Slot}
 use Rattle.nodes.specs.Chains.{attributes_of as attributes_in, bind}
 use Rattle.nodes.specs.Items.{last_not_after}
-use Rattle.nodes.proofs.Ranges.{none_some}
 use Rattle.bwtree.specs.declared.seat.Phase.TheVariants as phases
 use Rattle.bwtree.specs.declared.seat.Request.{Request}
 use Rattle.bwtree.specs.declared.seat.Request.TheVariants as requests
@@ -28,22 +28,23 @@ use Rattle.laws.specs.Theorem.{impossible}
 use Rattle.laws.specs.Worlds.{Node, World, find}
 use Rattle.refinement.specs.Resolved.{Store, Leaf, Root, store_of, carried, Resolved, base, on}
 use Rattle.refinement.specs.Following.{Follows, Measured}
-use Rattle.refinement.proofs.Places.{head_itself, nth_below}
+use Rattle.refinement.proofs.Places.{head_itself}
 use Rattle.refinement.specs.Relation.{Owner, Chained, Seen, head_at, view, Best, nothing, separator, Snapshot, SlotAs, empty, full, hidden, PhaseAs, leaf_read as at_leaf_read, root_walk as at_root_walk, leaf_walk, build, root_build, Related}
 use Rattle.refinement.proofs.Resolving.{resolved_weaker, record_read, frame_read, attributes_read, separators_read}
 use Rattle.refinement.proofs.Sitting.{chained_seen, follows_by, follows_goes}
+use Rattle.refinement.proofs.Slots.{leaf_past}
 
 -- a slot with a head is one of the slots
 pub head_below : (slots : List Slot) (n : ℕ) (h : Head) → head_at slots n ≡ Some h → n < length slots
 head_below slots n h e = go (slice_get slots n) refl e
   where
     go : (o : Option Slot) → slice_get slots n ≡ o → bind o (λ x. x.head) ≡ Some h → n < length slots
-    go None q f = absurd (none_some f)
-    go (Some x) q f = nth_below slots n x q
+    go None q f = absurd (none-some _ f)
+    go (Some x) q f = slice_get_within slots n x q
 
 -- an impossible answer is none
 pub not_impossible : {A : Type 0} → ◌≡◌ {A = Bool} true false → A
-not_impossible e = absurd (both_ways true e refl)
+not_impossible e = absurd (true≢false e)
 
 module _ {K : Type 0} where
   -- a leaf's attributes are those of its chain
@@ -90,12 +91,8 @@ module _ {K : Type 0} (before : K → K → Bool) (top : Item K) (m : Memory K) 
   -- ---- root read
 
   after_root : (r : Request K) → PhaseAs before top (view m w own) s r (after_root_in r related.root_head) (after_root_read r w.root)
-  after_root (requests.Lookup k) = at_root_walk (root_seen before top m w own related measured s) nothing
-  after_root (requests.Insert k v) = at_root_walk (root_seen before top m w own related measured s) nothing
-  after_root (requests.Delete k) = at_root_walk (root_seen before top m w own related measured s) nothing
-  after_root (requests.Consolidate k) = at_root_walk (root_seen before top m w own related measured s) nothing
-  after_root (requests.Split k) = at_root_walk (root_seen before top m w own related measured s) nothing
   after_root requests.ConsolidateRoot = root_build (root_snapshot before top m w own related measured s)
+  after_root _ = at_root_walk (root_seen before top m w own related measured s) nothing
 
   pub root_read_lem : Follows before top (root_read_in m s it) (perform before w s (Goes (after_root_read (w.seats s).request w.root)))
   root_read_lem =
@@ -129,15 +126,10 @@ module _ {K : Type 0} (before : K → K → Bool) (top : Item K) (m : Memory K) 
 
   -- ---- leaf read
 
-  -- a leaf is in a slot past the root's
-  leaf_past : (n : ℕ) (x : Node K) → find n w.leaves ≡ Some x → eqb n 0 ≡ false
-  leaf_past zero x e = absurd (none_some (sym related.no_root_leaf ∙ e))
-  leaf_past (suc n) x e = ne_eqb (suc n) 0 (λ q. omega arith)
-
   leaf_snapshot : {h : Head} {x : Node K} (n : ℕ) → head_in m n ≡ Some h → find n w.leaves ≡ Some x → x.slot ≡ n → Resolved before Leaf (store_of m) (λ y. own y ≡ Chained n) h x.chain
       → length (replay before x.chain) ≤ 64 → Snapshot before Leaf (view m w own) s n h x
   leaf_snapshot {h} {x} n e f p r z = record {
-    belongs = leaf_past n x f;
+    belongs = leaf_past before top m w own related n x f;
     within = head_below m.slots n h e;
     slot = p;
     agree = rw (e, p, f) (head_itself h ∙ sym (eq-eqb x.stamp x.stamp refl));
@@ -147,12 +139,10 @@ module _ {K : Type 0} (before : K → K → Bool) (top : Item K) (m : Memory K) 
   }
 
   after_leaf : {h : Head} {x : Node K} (n : ℕ) (r : Request K) → Snapshot before Leaf (view m w own) s n h x → PhaseAs before top (view m w own) s r (after_leaf_in r n h) (after_leaf_read r x)
-  after_leaf n (requests.Lookup k) p = leaf_walk p p.resolved
-  after_leaf n (requests.Insert k v) p = leaf_walk p p.resolved
-  after_leaf n (requests.Delete k) p = leaf_walk p p.resolved
   after_leaf n (requests.Consolidate k) p = build p
   after_leaf n (requests.Split k) p = build p
   after_leaf n requests.ConsolidateRoot p = build p
+  after_leaf n _ p = leaf_walk p p.resolved
 
   leaf_crosses : (h : Head) (n : ℕ) (o : Option ℕ) → impossible (perform before w s (crosses o)).answer ≡ false → Follows before top (leaf_found_in before m s it n h o true) (perform before w s (crosses o))
   leaf_crosses h n None e = not_impossible e
@@ -168,7 +158,7 @@ module _ {K : Type 0} (before : K → K → Bool) (top : Item K) (m : Memory K) 
 
   leaf_known : (k : K) (n : ℕ) (y : Option (Node K)) → find n w.leaves ≡ y → impossible (perform before w s (leaf_found before (w.seats s).request k y)).answer ≡ false → eqb n 0 ≡ false
   leaf_known k n None e i = not_impossible i
-  leaf_known k n (Some x) e i = leaf_past n x e
+  leaf_known k n (Some x) e i = leaf_past before top m w own related n x e
 
   leaf_slot : (k : K) (n : ℕ) (o : Option Head) (y : Option (Node K)) → head_in m n ≡ o → find n w.leaves ≡ y → SlotAs before (store_of m) own n o y
       → impossible (perform before w s (leaf_found before (w.seats s).request k y)).answer ≡ false

@@ -1,5 +1,5 @@
 -- swap of a consolidated leaf or root: memory follows the index without memory
-use Rattle.std.proofs.Common.{◌≡◌, ℕ, Bool, true, false, cond, List, [], length, Some, Option, sym, refl, ap, ◌∙◌, subst}
+use Rattle.std.proofs.Common.{◌≡◌, ℕ, Bool, true, false, cond, List, [], length, Some, Option, Ok, sym, refl, ap, ◌∙◌, subst}
 use Rattle.std.specs.List.{slice_get}
 use Rattle.nodes.specs.declared.node.Attributes.{Attributes}
 use Rattle.nodes.specs.declared.node.Frame.{Frame}
@@ -39,7 +39,7 @@ module _ {K : Type 0} (before : K → K → Bool) (top : Item K) (m : Memory K) 
 
   -- ---- the slot is not equal: the frame is given back
 
-  fails : Follows before top (Some (goes (given_back m (heads.Frame f)) s (lost it) phases.RootRead)) (turn Failed answers.Going (at w s RootRead))
+  fails : Follows before top (Some (goes (given_back m (heads.Frame f)) s (lost it) phases.RootRead)) (turn Failed (Ok answers.Going) (at w s RootRead))
   fails =
       let y = at_phase (lost it) phases.RootRead in
       let r = related_sit before top m w own related s y (record { request = (w.seats s).request; phase = RootRead }) (record { request = same; phase = root_read }) in

@@ -41,16 +41,8 @@ held_fresh (heads.Record i) = refl
 held_fresh (heads.Frame f) = refl
 
 held_length : (p : Phase) → held_in p ≡ length (held_at p)
-held_length phases.Idle = refl
-held_length phases.RootRead = refl
-held_length (phases.RootWalk at best) = refl
-held_length (phases.LeafRead slot) = refl
-held_length (phases.LeafWalk slot snapshot at) = refl
-held_length (phases.Build slot snapshot) = refl
 held_length (phases.Swap slot snapshot fresh) = held_fresh fresh
-held_length (phases.SplitSwap slot snapshot split separator frame target) = refl
-held_length (phases.PostRead separator depth size) = refl
-held_length (phases.PostSwap snapshot separator depth size) = refl
+held_length _ = refl
 
 free_length : {K : Type 0} (i : ℕ) (rs : List (Record K)) → total is_free rs ≡ length (free_from i rs)
 free_length i [] = refl

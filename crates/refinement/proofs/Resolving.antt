@@ -1,6 +1,7 @@
 -- what the rules read at a head that resolves to a chain is what the chain says
 use Rattle.std.proofs.Common.{◌≡◌, ℕ, suc, ◌+◌, ◌≤◌, Bool, true, false, cond, eqb, List, ◌∷◌, length, drop, Some, None, Option, sym, refl, ap, ◌∙◌, subst, add-one}
 use Rattle.std.specs.List.{slice_get}
+use Rattle.std.proofs.lemmas.Option.{same_Some}
 use Rattle.std.proofs.lemmas.Bool.{eq-eqb, le-leb, ne_eqb}
 use Rattle.keys.specs.Order.{same_key}
 use Rattle.nodes.specs.declared.node.Attributes.{Attributes}
@@ -16,7 +17,6 @@ use Rattle.nodes.specs.Build.{built, in_frame, items_of, replay_at}
 use Rattle.nodes.specs.Chains.{applied, attributes_of, deltas_from, frame_under, replay as replay_over}
 use Rattle.nodes.specs.Frames.{in_arrays, separators_in_frame}
 use Rattle.nodes.specs.Items.{ascends, last_not_after, lookup}
-use Rattle.nodes.proofs.Ranges.{some_same}
 use Rattle.bwtree.specs.declared.walk.Look.{Look}
 use Rattle.bwtree.specs.declared.walk.Look.TheVariants as looks
 use Rattle.bwtree.specs.Memory.{Memory}
@@ -57,7 +57,7 @@ module _ {K : Type 0} {before : K → K → Bool} where
   pub resolved_both : {g : Ground K} {t : Store K} {P Q : Head → Type 0} {h : Head} {c d : Chain K} → Resolved before g t P h c → Resolved before g t Q h d → Resolved before g t Q h c
   resolved_both (base e p) (base f q) = base e q
   resolved_both {g} {t} {Q = Q} (on {i = i} {next = next} e a p r) (on {next = other} {c = d} f b q s) =
-      let z : next ≡ other = ap (λ (x : Delta K). x.next) (some_same (sym e ∙ f)) in
+      let z : next ≡ other = ap (λ (x : Delta K). x.next) (same_Some _ _ (sym e ∙ f)) in
       on e a q (resolved_both r (subst (λ (y : Head). Resolved before g t Q y d) (sym z) s))
 
   -- the attributes of a resolved head

@@ -1,6 +1,7 @@
 -- swap of a consolidated leaf or root: the replaced chain waits for the seats that are open
-use Rattle.std.proofs.Common.{◌≡◌, ℕ, zero, suc, ◌<◌, Bool, true, false, cond, eqb, List, get_or, Some, Option, sym, refl, ap, ◌∙◌, subst, inr, ⊎_elim, arith, length-set}
+use Rattle.std.proofs.Common.{◌≡◌, ℕ, suc, ◌<◌, Bool, true, false, cond, eqb, List, get_or, Some, Option, sym, refl, ap, ◌∙◌, subst, inr, ⊎_elim, arith, length-set}
 use Rattle.std.specs.List.{slice_get}
+use Rattle.std.proofs.lemmas.Option.{slice_get_within}
 use Rattle.std.proofs.lemmas.Bool.{both_ways, cases_Bool, eq-eqb, ne_eqb}
 use Rattle.nodes.specs.declared.node.Frame.{Frame}
 use Rattle.nodes.specs.declared.node.FrameState.{FrameState}
@@ -16,37 +17,26 @@ use Rattle.bwtree.specs.Memory.{Memory, at_phase, idle, won}
 use Rattle.bwtree.specs.Swaps.{is_open, open_seats}
 use Rattle.laws.specs.Chains.{Chain, Base}
 use Rattle.laws.specs.Worlds.{World}
+use Rattle.laws.proofs.Items.{never}
 use Rattle.refinement.specs.Relation.{busy, Owner, Free, Chained, Held, Group, waits_for, Reachable, states_of, Grouped, Related}
 use Rattle.refinement.specs.Resolved.{Ground, store_of, carried, Framed, Resolved, base}
 use Rattle.refinement.proofs.Installing.{Installs}
-use Rattle.refinement.proofs.Places.{map_set_same, nth_below, nth_set_cases}
+use Rattle.refinement.proofs.Places.{map_set_same, nth_set_cases}
 use Rattle.refinement.proofs.Pooling.{restated, state_other, state_same, unwaited as unwaited_frame}
 use Rattle.refinement.proofs.Resolving.{resolved_weaker}
 use Rattle.refinement.proofs.Swapping.{set_other}
-use Rattle.refinement.proofs.Taking.{mine_chained, mine_group, mine_held, mine_seen, owned, owned_keep, owned_same}
-use Rattle.refinement.proofs.Walking.{never}
+use Rattle.refinement.proofs.Taking.{mine_chained, mine_group, mine_held, mine_seen, owned, owned_keep, owned_same, chained_group, held_free}
 
 -- ---- the seats that are open
 
 pub busy_open : (p : Phase) → busy p ≡ true → is_open p ≡ true
 busy_open phases.Idle e = never e
-busy_open phases.RootRead e = refl
-busy_open (phases.RootWalk at best) e = refl
-busy_open (phases.LeafRead slot) e = refl
-busy_open (phases.LeafWalk slot snapshot at) e = refl
-busy_open (phases.Build slot snapshot) e = refl
-busy_open (phases.Swap slot snapshot fresh) e = refl
-busy_open (phases.SplitSwap slot snapshot split separator frame target) e = refl
-busy_open (phases.PostRead separator depth size) e = refl
-busy_open (phases.PostSwap snapshot separator depth size) e = refl
+busy_open _ e = refl
 
 module _ {K : Type 0} where
   pub open_marked : (seats : List (Seat K)) (u : ℕ) (it : Seat K) → u < 4 → slice_get seats u ≡ Some it → is_open it.phase ≡ true → get_or (open_seats seats) u false ≡ true
-  open_marked seats zero it l e o = rw e o
-  open_marked seats (suc zero) it l e o = rw e o
-  open_marked seats (suc (suc zero)) it l e o = rw e o
-  open_marked seats (suc (suc (suc zero))) it l e o = rw e o
   open_marked seats (suc (suc (suc (suc u)))) it l e o = absurd (omega arith)
+  open_marked seats _ it l e o = rw e o
 
 -- ---- owners
 
@@ -72,14 +62,8 @@ retired_group n b j o e = rw e refl
 retired_free : (n b : ℕ) (o : Owner) → o ≡ Free → retired n b o ≡ Free
 retired_free n b o e = rw e refl
 
-chained_group : (o : Owner) (n j : ℕ) → o ≡ Chained n → o ≡ Group j → ⊥
-chained_group o n j e p = let z : ◌≡◌ {A = ℕ} 0 1 = cc in omega arith
-
-held_not_free : (o : Owner) (s : ℕ) → o ≡ Held s → o ≡ Free → ⊥
-held_not_free o s e p = let z : ◌≡◌ {A = ℕ} 0 1 = cc in omega arith
-
 waiting_free : (marks : List Bool) (h : Head) (n : ℕ) → states.Waiting marks h n ≡ states.Free → ⊥
-waiting_free marks h n q = let z : ◌≡◌ {A = ℕ} 0 1 = cc in omega arith
+waiting_free marks h n q = grind arith
 
 module _ {K : Type 0} (before : K → K → Bool) (top : Item K) (m : Memory K) (w : World K) (own : Head → Owner) (related : Related before top m w own) (s : ℕ) (it : Seat K)
     {g : Ground K} {n f : ℕ} {h : Head} {c : Chain K} {l q : Option K} {e : Option ℕ} {xs : List (Item K)} (b : ℕ) (xb : Frame K) (there : slice_get m.frames b ≡ Some xb)
@@ -118,7 +102,7 @@ module _ {K : Type 0} (before : K → K → Bool) (top : Item K) (m : Memory K) 
 
   marked : (u : ℕ) (y : Seat K) → slice_get (idle m s (won it)).seats u ≡ Some y → busy y.phase ≡ true → get_or marks u false ≡ true
   marked u y z o =
-      let long = nth_below (idle m s (won it)).seats u y z in
+      let long = slice_get_within (idle m s (won it)).seats u y z in
       open_marked (idle m s (won it)).seats u y (omega (arith, length-set m.seats s (at_phase (won it) phases.Idle), related.sized.seats)) z (busy_open y.phase o)
 
   pub retires : Installs before top g (idle m s (won it)) (restated m.frames b xb waiting) n (heads.Frame f) (Base l q e xs) own replaced
@@ -130,7 +114,7 @@ module _ {K : Type 0} (before : K → K → Bool) (top : Item K) (m : Memory K) 
     held = λ u y z o v p. keep (λ v. v ≡ Held u) v (mine_held s u (shifted (heads.Frame f)) (set_other m.seats s u (at_phase (won it) phases.Idle) y refl z o) (inr still_held)) (retired_held n b u (own v) p);
     fresh = λ u. mine_seen s u (states_of m.frames) (own (heads.Frame f)) (inr held);
     free_records = λ j p. retired_free n b (own (heads.Record j)) p;
-    free_frames = λ j y z p. ⊎_elim (λ d. absurd (waiting_free marks h (carried g c).depth (sym (ap (λ (v : Frame K). v.state) d.1) ∙ p))) (λ d. keep (λ o. o ≡ Free) (heads.Frame j) (held_not_free (shifted (heads.Frame f)) s still_held) (retired_free n b (own (heads.Frame j)) (related.free_frames j y d.1 p))) (nth_set_cases m.frames b j (with_state xb waiting) y z);
+    free_frames = λ j y z p. ⊎_elim (λ d. absurd (waiting_free marks h (carried g c).depth (sym (ap (λ (v : Frame K). v.state) d.1) ∙ p))) (λ d. keep (λ o. o ≡ Free) (heads.Frame j) (held_free (shifted (heads.Frame f)) s still_held) (retired_free n b (own (heads.Frame j)) (related.free_frames j y d.1 p))) (nth_set_cases m.frames b j (with_state xb waiting) y z);
     groups = λ j y k t i z p. ⊎_elim (λ d. group_here_lem j k t i d.0 (sym (ap (λ (v : Frame K). v.state) d.1) ∙ p)) (λ d. group_kept j t i (related.groups j y k t i d.1 p)) (nth_set_cases m.frames b j (with_state xb waiting) y z);
     chain = base framed (owned_same shifted (heads.Frame f) (Chained n));
   }

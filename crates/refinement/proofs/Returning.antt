@@ -21,9 +21,6 @@ use Rattle.refinement.proofs.Pooling.{related_pooled, restated, seen_restated, u
 use Rattle.refinement.proofs.Resolving.{frame_read, record_read}
 use Rattle.refinement.proofs.Taking.{mine_chained, mine_group, mine_held, mine_seen, owned, owned_keep, owned_same, related_filled}
 
-free_waiting : (marks : List Bool) (h : Head) (n : ℕ) → states.Free ≡ states.Waiting marks h n → ⊥
-free_waiting marks h n q = let z : ◌≡◌ {A = ℕ} 0 1 = cc in omega arith
-
 module _ {K : Type 0} where
   -- one record is freed
   free_one : (rs : List (Record K)) (i : ℕ) (r : Record K) → slice_get rs i ≡ Some r → free_chain 1 rs (heads.Record i) ≡ set rs i (freed r)
@@ -52,5 +49,5 @@ module _ {K : Type 0} (before : K → K → Bool) (top : Item K) (m : Memory K) 
         free_frames = λ j d g. rw d g;
         free_here = λ d. owned_same own (heads.Frame f) Free;
         groups = λ j d v g. keep (λ o. o ≡ Group j) v (mine_group s j (own (heads.Frame f)) (inr held)) g;
-        group_here = λ marks g k d. absurd (free_waiting marks g k d);
+        group_here = λ marks g k d. absurd (grind (arith, d));
       }))

@@ -1,13 +1,13 @@
 -- a head is installed in slot 0, the root's
 use Rattle.std.proofs.Common.{◌≡◌, ℕ, ◌*◌, ◌<◌, Bool, true, false, eqb, List, Some, Option, sym, refl, ap, ◌∙◌, subst, arith, length-set}
 use Rattle.std.specs.List.{slice_get}
+use Rattle.std.proofs.lemmas.Option.{same_Some}
 use Rattle.std.proofs.lemmas.Bool.{ne_eqb}
 use Rattle.nodes.specs.declared.node.Frame.{Frame}
 use Rattle.nodes.specs.declared.node.Head.{Head}
 use Rattle.nodes.specs.declared.node.Head.TheVariants as heads
 use Rattle.nodes.specs.declared.node.Item.{Item}
 use Rattle.nodes.specs.declared.node.Slot.{Slot}
-use Rattle.nodes.proofs.Ranges.{some_same}
 use Rattle.bwtree.specs.declared.seat.Seat.{Seat}
 use Rattle.bwtree.specs.Memory.{Memory, set_slot, with_frames}
 use Rattle.bwtree.specs.Swaps.{unchanged as same_as}
@@ -22,7 +22,7 @@ use Rattle.refinement.proofs.Places.{head_other, head_true}
 use Rattle.refinement.proofs.Resolving.{resolved_both, resolved_head, resolved_weaker}
 
 chained_held : (o : Owner) (n u : ℕ) → o ≡ Chained n → o ≡ Held u → ⊥
-chained_held o n u e p = let z : ◌≡◌ {A = ℕ} 0 1 = cc in omega arith
+chained_held o n u e p = grind arith
 
 module _ {K : Type 0} (before : K → K → Bool) (top : Item K) where
   -- a snapshot of the root that is current is the root's own chain
@@ -61,7 +61,7 @@ module _ {K : Type 0} (before : K → K → Bool) (top : Item K) where
     -- the frame of a split that is not installed yet is in another slot
     spot_other : (u j f : ℕ) → own (heads.Frame f) ≡ Held u → head_at m.slots j ≡ Some (heads.Frame f) → eqb j 0 ≡ false
     spot_other u j f q a = ne_eqb j 0 (λ z.
-        let e : related.root_head ≡ heads.Frame f = some_same (sym related.root_slot ∙ ap (head_at m.slots) (sym z) ∙ a) in
+        let e : related.root_head ≡ heads.Frame f = same_Some _ _ (sym related.root_slot ∙ ap (head_at m.slots) (sym z) ∙ a) in
         chained_held (own (heads.Frame f)) 0 u (ap own (sym e) ∙ resolved_head related.root_chain) q)
 
     kept : (u : ℕ) (it : Seat K) → slice_get m.seats u ≡ Some it → busy it.phase ≡ true → Kept before (view m w own) (view installed next own') u

@@ -1,13 +1,13 @@
 -- nothing that a seat can still read or has taken is free
 use Rattle.std.proofs.Common.{◌≡◌, ℕ, Bool, Some, Option, sym, ap, ◌∙◌, subst, ⊎_elim}
 use Rattle.std.specs.List.{slice_get, AllByRecursion}
+use Rattle.std.proofs.lemmas.Option.{same_Some}
 use Rattle.std.proofs.lemmas.Bool.{cases_Bool}
 use Rattle.nodes.specs.declared.node.Delta.{Delta}
 use Rattle.nodes.specs.declared.node.Head.{Head}
 use Rattle.nodes.specs.declared.node.Head.TheVariants as heads
 use Rattle.nodes.specs.declared.node.Item.{Item}
 use Rattle.nodes.specs.declared.node.Record.{Record}
-use Rattle.nodes.proofs.Ranges.{some_same}
 use Rattle.bwtree.specs.declared.seat.Phase.{Phase}
 use Rattle.bwtree.specs.declared.seat.Request.{Request}
 use Rattle.bwtree.specs.declared.seat.Seat.{Seat}
@@ -18,7 +18,7 @@ use Rattle.refinement.specs.Relation.{Owner, Free, Held, Reachable, Seen, Best, 
 use Rattle.refinement.specs.Resolved.{Ground, Resolved, base, on, store_of}
 use Rattle.refinement.specs.Stands.{InUse, LeadsTo, here, below, Safe, remembered}
 use Rattle.refinement.proofs.Resolving.{record_read}
-use Rattle.refinement.proofs.Swapping.{held_free}
+use Rattle.refinement.proofs.Taking.{held_free}
 
 module _ {K : Type 0} (before : K → K → Bool) (m : Memory K) where
   -- the way down in memory is that of the chain
@@ -27,7 +27,7 @@ module _ {K : Type 0} (before : K → K → Bool) (m : Memory K) where
   led_down x (on e a p r) here = p
   led_down {P = P} x (on {i = i} {next = next} {c = c} e a p r) (below y q l) =
       let z = record_read m i _ e in
-      let down : y.delta.next ≡ next = ap (λ (w : Record K). w.delta.next) (some_same (sym q ∙ z.1)) ∙ ap (λ (d : Delta K). d.next) z.2 in
+      let down : y.delta.next ≡ next = ap (λ (w : Record K). w.delta.next) (same_Some _ _ (sym q ∙ z.1)) ∙ ap (λ (d : Delta K). d.next) z.2 in
       led_down x r (subst (λ (w : Head). LeadsTo m.records w x) down l)
 
 module _ {K : Type 0} (before : K → K → Bool) (top : Item K) (m : Memory K) (w : World K) (own : Head → Owner) (related : Related before top m w own) where

@@ -1,12 +1,11 @@
 -- calls one after the other: memory follows the index without memory, and leaves the same history
-use Rattle.std.proofs.Common.{◌≡◌, ℕ, ◌<◌, ◌≤◌, Bool, true, false, eqb, ltb, List, [], ◌∷◌, Some, None, sym, refl, ap, ◌∙◌, subst, ⊎_elim, arith}
+use Rattle.std.proofs.Common.{◌≡◌, ℕ, ◌<◌, ◌≤◌, Bool, true, false, eqb, ltb, List, [], ◌∷◌, Some, None, Err, sym, refl, ap, ◌∙◌, subst, ⊎_elim, arith}
 use Rattle.std.specs.List.{slice_get}
 use Rattle.std.proofs.lemmas.Option.{slice_get_past}
 use Rattle.std.proofs.lemmas.Bool.{cases_Bool, eqb-true, le-ltb, ltb-false, ltb-true}
 use Rattle.keys.specs.Order.{Lawful}
 use Rattle.nodes.specs.declared.node.Head.{Head}
 use Rattle.nodes.specs.declared.node.Item.{Item}
-use Rattle.bwtree.specs.declared.answer.Answer.TheVariants as answers
 use Rattle.bwtree.specs.declared.answer.Refusal.TheVariants as refusals
 use Rattle.bwtree.specs.declared.call.Call.{Call}
 use Rattle.bwtree.specs.declared.call.Call.TheVariants as calls
@@ -92,7 +91,7 @@ module _ {K : Type 0} (before : K → K → Bool) (law : Lawful K before) (z : S
     }
 
     -- a seat that is not there
-    absent : (c : Call K) (g : Granted) → ltb (seat_of (without_memory c)) 4 ≡ false → call_in before z m c ≡ Some (refused_in m refusals.NoSuchSeat) → did m c (answers.Refused refusals.NoSuchSeat) ≡ Otherwise → Followed m w c
+    absent : (c : Call K) (g : Granted) → ltb (seat_of (without_memory c)) 4 ≡ false → call_in before z m c ≡ Some (refused_in m refusals.NoSuchSeat) → did m c (Err refusals.NoSuchSeat) ≡ Otherwise → Followed m w c
     absent c g e q d =
         let t : call before w g (without_memory c) ≡ refused w refusals.NoSuchSeat = rw e refl in
         record {

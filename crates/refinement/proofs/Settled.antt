@@ -1,6 +1,7 @@
 -- every record is accounted for, apart from those in hand: how each change of memory keeps it
 use Rattle.std.proofs.Common.{◌≡◌, ℕ, zero, suc, ◌+◌, ◌≤◌, Bool, true, false, cond, eqb, List, [], ◌∷◌, length, set, Some, None, Option, sym, refl, ap, ◌∙◌, subst, ⊎_elim, arith, length-set}
 use Rattle.std.specs.List.{slice_get}
+use Rattle.std.proofs.lemmas.Option.{none-some, same_Some}
 use Rattle.std.proofs.lemmas.Bool.{both_ways, cases_Bool, eq-eqb, eqb-true, ne_eqb}
 use Rattle.nodes.specs.declared.node.Delta.{Delta}
 use Rattle.nodes.specs.declared.node.Frame.{Frame}
@@ -11,7 +12,6 @@ use Rattle.nodes.specs.declared.node.FrameState.TheVariants as states
 use Rattle.nodes.specs.declared.node.Record.{Record}
 use Rattle.nodes.specs.declared.node.Slot.{Slot}
 use Rattle.nodes.specs.Chains.{bind}
-use Rattle.nodes.proofs.Ranges.{none_some, some_same}
 use Rattle.pool.specs.Free.{free_chain, freed}
 use Rattle.bwtree.specs.Reports.{depth_of, total}
 use Rattle.refinement.specs.Accounts.{Leads, chain_from, chain_in, at_frame, free_from, on_record, numbers, waiting_at}
@@ -125,7 +125,7 @@ module _ {K : Type 0} where
       subst (λ (n : ℕ). Leads rs n (heads.Frame f)) (sym (a ∙ d)) at_frame
 
   pub leads_some : (rs : List (Record K)) (fs : List (Frame K)) (g : Head) → Leads rs (depth_of rs fs (Some g)) g → (h : Head) → ◌≡◌ {A = Option Head} (Some g) (Some h) → Leads rs (depth_of rs fs (Some h)) h
-  leads_some rs fs g l h e = subst (λ (y : Head). Leads rs (depth_of rs fs (Some y)) y) (some_same e) l
+  leads_some rs fs g l h e = subst (λ (y : Head). Leads rs (depth_of rs fs (Some y)) y) (same_Some _ _ e) l
 
 -- ---- the account
 
@@ -161,7 +161,7 @@ module _ {K : Type 0} {slots : List Slot} {records : List (Record K)} {frames : 
   }
     where
       leads : (j : ℕ) (h : Head) (y : Option Slot) → slice_get (set slots n (record { head = o })) j ≡ y → bind y (λ z. z.head) ≡ Some h → Leads records (depth_of records frames (Some h)) h
-      leads j h None p q = absurd (none_some q)
+      leads j h None p q = absurd (none-some _ q)
       leads j h (Some y) p q = ⊎_elim (λ z. d h (sym (ap (λ (v : Slot). v.head) z.1) ∙ q)) (λ z. slot_leads j y z.1 h q) (nth_set_cases slots n j (record { head = o }) y p)
 
   -- ---- a frame is written
@@ -211,7 +211,7 @@ module _ {K : Type 0} {slots : List Slot} {records : List (Record K)} {frames : 
     }
       where
         leads : (n : ℕ) (h : Head) (o : Option Slot) → slice_get slots n ≡ o → bind o (λ z. z.head) ≡ Some h → Leads (set records i y) (depth_of (set records i y) frames (Some h)) h
-        leads n h None e q = absurd (none_some q)
+        leads n h None e q = absurd (none-some _ q)
         leads n h (Some z) e q = leads_in_set records frames i x y there h (slot_leads n z e h q) (ap (λ (o : Option Head). total (only i) (chain_in records frames o)) (sym q) ∙ off_slot n z e)
 
 -- ---- one record on_record from list to list

@@ -1,5 +1,5 @@
 -- a step that changes one seat alone
-use Rattle.std.proofs.Common.{◌≡◌, ℕ, Bool, false, eqb, ◌⊎◌, List, set, Some, Option, sym, refl, ◌∙◌, subst, inl, inr, length-set}
+use Rattle.std.proofs.Common.{◌≡◌, ℕ, Bool, false, eqb, ◌⊎◌, List, set, Some, Option, Ok, sym, refl, ◌∙◌, subst, inl, inr, length-set}
 use Rattle.std.specs.List.{slice_get}
 use Rattle.std.proofs.lemmas.Bool.{eq-eqb}
 use Rattle.nodes.specs.declared.node.FrameState.{FrameState}
@@ -69,7 +69,7 @@ module _ {K : Type 0} (before : K → K → Bool) (top : Item K) where
 
     -- the operation goes on with a phase
     pub follows_goes : (it : Seat K) (d : Did) (p : Phase) (q : Place K) → it.request ≡ (w.seats s).request → PhaseAs before top (view m w own) s (w.seats s).request p q
-        → Follows before top (Some (goes m s it p)) (turn d answers.Going (at w s q))
+        → Follows before top (Some (goes m s it p)) (turn d (Ok answers.Going) (at w s q))
     follows_goes it d p q r e = record {
       outcome = goes m s it p;
       is = refl;

@@ -1,7 +1,8 @@
 -- build of a split: memory follows the index without memory
 use Rattle.std.proofs.Common.{◌≡◌, ℕ, suc, ◌+◌, ◌-◌, ◌<◌, ◌≤◌, Bool, true, false, cond, eqb, ltb, List, [], ◌∷◌, length, drop, set, Some, None, Option, sym, refl, ap, ◌∙◌, inl, inr, arith, length-drop}
 use Rattle.std.specs.List.{slice_get}
-use Rattle.std.proofs.lemmas.Bool.{cond_both, le-leb, ltb-false}
+use Rattle.std.proofs.lemmas.Option.{slice_get_within}
+use Rattle.std.proofs.lemmas.Bool.{cond_both, ltb-false}
 use Rattle.keys.specs.Order.{Lawful}
 use Rattle.image.proofs.Unordered.{drop_nth_some}
 use Rattle.nodes.specs.declared.node.Attributes.{Attributes}
@@ -16,9 +17,9 @@ use Rattle.nodes.specs.declared.node.Kind.TheVariants as kinds
 use Rattle.nodes.specs.declared.node.Record.{Record}
 use Rattle.nodes.specs.declared.node.Slot.{Slot}
 use Rattle.nodes.specs.Build.{in_frame}
-use Rattle.nodes.specs.Frames.{in_arrays, place_of}
+use Rattle.nodes.specs.Frames.{place_of}
 use Rattle.nodes.specs.Items.{ascends, below}
-use Rattle.nodes.proofs.Items.{ascending_from}
+use Rattle.nodes.proofs.ItemLists.{ascending_from}
 use Rattle.nodes.proofs.Writes.{puts_other}
 use Rattle.pool.specs.Free.{free_frame}
 use Rattle.bwtree.specs.declared.answer.End.TheVariants as ends
@@ -31,23 +32,23 @@ use Rattle.laws.specs.Acts.{Act, Goes, ends_at, split_at, split_slot, splitting}
 use Rattle.laws.specs.Calls.{perform}
 use Rattle.laws.specs.Chains.{Base, attributes_of, replay}
 use Rattle.laws.specs.Worlds.{Granted, Node, SplitSwap, World, offered}
-use Rattle.laws.proofs.Items.{ascending_ascends, ascending_drop}
+use Rattle.laws.proofs.Items.{ascending_ascends, ascending_drop, never}
 use Rattle.refinement.specs.Following.{Follows, is_there}
 use Rattle.refinement.proofs.Granting.{second_there, two_free}
 use Rattle.refinement.specs.Relation.{Owner, Free, Held, Seen, head_at, states_of, view, Snapshot, PhaseAs, splitting as at_splitting, Related}
 use Rattle.refinement.specs.Resolved.{Leaf, store_of, carried, delta_over, Framed}
-use Rattle.refinement.proofs.Building.{free_state, replay_ascends}
+use Rattle.refinement.proofs.Building.{free_state, replay_ascends, frame_in}
 use Rattle.refinement.proofs.Depths.{depth_bound}
 use Rattle.refinement.proofs.Hiding.{bare_leafless, hiding_here, kept_hiding, offered_bare, related_hiding, slot_free}
 use Rattle.refinement.proofs.Laying.{framed_here, kept_laid, related_laid}
 use Rattle.refinement.proofs.Leaving.{follows_ended}
 use Rattle.refinement.proofs.Moves.{Kept, snapshot_kept}
-use Rattle.refinement.proofs.Places.{keys_of, next_free_lem, nth_below, nth_set_other, nth_set_there, nth_there, other_free_lem}
+use Rattle.refinement.proofs.Places.{keys_of, next_free_lem, nth_set_other, nth_set_there, nth_there, other_free_lem}
 use Rattle.refinement.proofs.Reading.{carried_leaf}
 use Rattle.refinement.proofs.Resolving.{built_read}
 use Rattle.refinement.proofs.Sitting.{follows_by, follows_goes}
 use Rattle.refinement.proofs.Taking.{filled_here, free_held, kept_filled, mine_seen, owned, owned_same, related_filled}
-use Rattle.refinement.proofs.Walking.{delta_put, never}
+use Rattle.refinement.proofs.Walking.{delta_put}
 
 module _ {K : Type 0} (before : K → K → Bool) where
   below_length : (k : K) (xs : List (Item K)) → length (below before k xs) ≤ length xs
@@ -73,9 +74,6 @@ module _ {K : Type 0} (before : K → K → Bool) (law : Lawful K before) (top :
 
   size_is : a.size ≡ length (replay before x.chain)
   size_is = ap (λ (z : Attributes K). z.size) (sym (carried_leaf x.chain)) ∙ p.fitting.size
-
-  room : (f : ℕ) → f < length m.frames → in_arrays m.keys m.values f ≡ true
-  room f l = rw (le-leb (place_of f + 64) (length m.keys) (omega (arith, related.sized.keys)), le-leb (place_of f + 64) (length m.values) (omega (arith, related.sized.values))) refl
 
   delta_is : (kind : Kind) (k : K) (v : ℕ) → delta_on kind k v h a ≡ Some (delta_over Leaf kind k v h x.chain)
   delta_is kind k v =
@@ -196,14 +194,14 @@ module _ {K : Type 0} (before : K → K → Bool) (law : Lawful K before) (top :
 
     key_read : slice_get (in_frame m.keys m.values f ys).keys (place_of f) ≡ Some k
     key_read =
-        let l = nth_below m.frames f x₀ there_f in
+        let l = slice_get_within m.frames f x₀ there_f in
         ap (λ (zs : List (Item K)). slice_get (in_frame m.keys m.values f zs).keys (place_of f)) (drop_nth_some (replay before x.chain) (cut a.size) y (sym first))
         ∙ first_key_lem m.keys m.values f y (drop (cut a.size + 1) (replay before x.chain)) (omega (arith, related.sized.keys))
 
     split_built_lem : Follows before top (split_built before m s it n h a f target i j) (perform before w s (Goes (SplitSwap x k target)))
     split_built_lem =
-        let b = built_read before m (cut a.size) f (mine_seen s s (states_of m.frames) (own (heads.Frame f)) (inl free_f)) p.fitting.size p.fitting.small (room f (nth_below m.frames f x₀ there_f)) p.resolved in
-        follows_by before top (rw (b, room f (nth_below m.frames f x₀ there_f), key_read, delta_is kinds.Split k target, delta_is kinds.Separator k target) refl)
+        let b = built_read before m (cut a.size) f (mine_seen s s (states_of m.frames) (own (heads.Frame f)) (inl free_f)) p.fitting.size p.fitting.small (frame_in before top m w own related f (slice_get_within m.frames f x₀ there_f)) p.resolved in
+        follows_by before top (rw (b, frame_in before top m w own related f (slice_get_within m.frames f x₀ there_f), key_read, delta_is kinds.Split k target, delta_is kinds.Separator k target) refl)
         (follows_goes before top m₄ w own₄ related₄ s (with_cursors it (record { records = j; frames = f; slots = target })) _ (phases.SplitSwap n h i j f target) _ same phase)
 
   -- ---- a split takes what is free, or ends

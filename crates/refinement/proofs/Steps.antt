@@ -1,5 +1,5 @@
 -- the steps of a seat, by its phase
-use Rattle.std.proofs.Common.{◌≡◌, ℕ, ◌<◌, Bool, true, false, not, Some, refl, ap, arith}
+use Rattle.std.proofs.Common.{◌≡◌, ℕ, ◌<◌, Bool, true, false, not, Some, Ok, refl, ap, arith}
 use Rattle.std.specs.List.{slice_get}
 use Rattle.keys.specs.Order.{Lawful}
 use Rattle.nodes.specs.declared.node.Head.{Head}
@@ -94,7 +94,7 @@ module _ {K : Type 0} (before : K → K → Bool) (top : Item K) (m : Memory K) 
   begin_on_lem it r true = record { outcome = refused m refusals.SeatOpen; is = refl; answer = refl; owner = own; related = related }
   begin_on_lem it r false =
       record {
-        outcome = record { memory = set_seat m s (opened_in it r); answer = answers.Begun };
+        outcome = record { memory = set_seat m s (opened_in it r); answer = Ok answers.Begun };
         is = refl;
         answer = refl;
         owner = own;

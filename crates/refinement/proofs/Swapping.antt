@@ -1,6 +1,7 @@
 -- swap of an insertion or a deletion: memory follows the index without memory
-use Rattle.std.proofs.Common.{◌≡◌, ℕ, ◌≤◌, Bool, true, false, cond, eqb, List, [], length, set, Some, None, Option, sym, refl, ap, ◌∙◌, subst, inr, ⊎_elim, arith}
+use Rattle.std.proofs.Common.{◌≡◌, ℕ, ◌≤◌, Bool, true, false, cond, eqb, List, [], length, set, Some, None, Option, Ok, sym, refl, ap, ◌∙◌, subst, inr, ⊎_elim}
 use Rattle.std.specs.List.{slice_get}
+use Rattle.std.proofs.lemmas.Option.{none-some, same_Some}
 use Rattle.std.proofs.lemmas.Bool.{both_ways}
 use Rattle.nodes.specs.declared.node.Attributes.{Attributes}
 use Rattle.nodes.specs.declared.node.Delta.{Delta}
@@ -10,7 +11,6 @@ use Rattle.nodes.specs.declared.node.Item.{Item}
 use Rattle.nodes.specs.declared.node.Kind.{Kind}
 use Rattle.nodes.specs.declared.node.Slot.{Slot}
 use Rattle.nodes.specs.Chains.{bind}
-use Rattle.nodes.proofs.Ranges.{none_some, some_same}
 use Rattle.bwtree.specs.declared.answer.Answer.TheVariants as answers
 use Rattle.bwtree.specs.declared.answer.End.{End}
 use Rattle.bwtree.specs.declared.seat.Phase.TheVariants as phases
@@ -22,6 +22,7 @@ use Rattle.laws.specs.Calls.{Failed, Installed, at, ended as ended_answer, perfo
 use Rattle.laws.specs.Chains.{Chain, On, attributes_of, replay}
 use Rattle.laws.specs.Theorem.{impossible}
 use Rattle.laws.specs.Worlds.{Idle, Node, RootRead, World, find, same_stamp, unchanged}
+use Rattle.laws.proofs.Items.{never}
 use Rattle.refinement.specs.Following.{Follows}
 use Rattle.refinement.specs.Relation.{busy, Owner, Free, Chained, Held, Group, Reachable, head_at, states_of, view, Snapshot, SlotAs, empty, full, hidden, Related, root_read}
 use Rattle.refinement.specs.Resolved.{Store, Leaf, store_of, delta_over, Resolved, on}
@@ -32,20 +33,16 @@ use Rattle.refinement.proofs.Reading.{carried_leaf, not_impossible}
 use Rattle.refinement.proofs.Resolving.{record_read, resolved_both, resolved_weaker}
 use Rattle.refinement.proofs.Returning.{record_returned}
 use Rattle.refinement.proofs.Sitting.{follows_by, related_idle, related_sit}
-use Rattle.refinement.proofs.Taking.{mine_chained, mine_group, mine_held, mine_seen, owned, owned_keep, owned_same}
-use Rattle.refinement.proofs.Walking.{never}
-
-pub held_free : (o : Owner) (s : ℕ) → o ≡ Held s → o ≡ Free → ⊥
-held_free o s e p = let z : ◌≡◌ {A = ℕ} 0 1 = cc in omega arith
+use Rattle.refinement.proofs.Taking.{mine_chained, mine_group, mine_held, mine_seen, owned, owned_keep, owned_same, held_free}
 
 module _ {K : Type 0} (before : K → K → Bool) where
   -- a slot with a leaf
   pub slot_full : {t : Store K} {own : Head → Owner} {n : ℕ} {o : Option Head} {y : Option (Node K)} (h : Head) (l : Node K) → o ≡ Some h → y ≡ Some l → SlotAs before t own n o y → Resolved before Leaf t (λ z. own z ≡ Chained n) h l.chain
-  slot_full h l e f empty = absurd (none_some e)
-  slot_full h l e f hidden = absurd (none_some f)
+  slot_full h l e f empty = absurd (none-some _ e)
+  slot_full h l e f hidden = absurd (none-some _ f)
   slot_full {t} {own} {n} h l e f (full {h = g} {x = x} p r z) =
-      subst (λ (y : Head). Resolved before Leaf t (λ z. own z ≡ Chained n) y l.chain) (some_same e)
-      (subst (λ (y : Node K). Resolved before Leaf t (λ z. own z ≡ Chained n) g y.chain) (some_same f) r)
+      subst (λ (y : Head). Resolved before Leaf t (λ z. own z ≡ Chained n) y l.chain) (same_Some _ _ e)
+      (subst (λ (y : Node K). Resolved before Leaf t (λ z. own z ≡ Chained n) g y.chain) (same_Some _ _ f) r)
 
 module _ {K : Type 0} where
   -- a leaf that is as the snapshot has it is there
@@ -81,7 +78,7 @@ module _ {K : Type 0} (before : K → K → Bool) (top : Item K) (m : Memory K) 
 
   -- ---- the slot is not equal
 
-  fails : Follows before top (Some (goes (given_back m (heads.Record i)) s (lost it) phases.RootRead)) (turn Failed answers.Going (at w s RootRead))
+  fails : Follows before top (Some (goes (given_back m (heads.Record i)) s (lost it) phases.RootRead)) (turn Failed (Ok answers.Going) (at w s RootRead))
   fails =
       let y = at_phase (lost it) phases.RootRead in
       let r = related_sit before top m w own related s y (record { request = (w.seats s).request; phase = RootRead }) (record { request = same; phase = root_read }) in

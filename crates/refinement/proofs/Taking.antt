@@ -1,6 +1,7 @@
 -- a record is taken and filled, or given back
 use Rattle.std.proofs.Common.{◌≡◌, ℕ, Bool, true, false, cond, eqb, ◌⊎◌, List, set, Some, Option, sym, refl, ap, ◌∙◌, subst, inl, inr, ⊎_elim, arith, length-set}
 use Rattle.std.specs.List.{slice_get}
+use Rattle.std.proofs.lemmas.List.{map-set}
 use Rattle.std.proofs.lemmas.Bool.{both_ways, cond_both, eq-eqb, ne_eqb}
 use Rattle.nodes.specs.declared.node.Delta.{Delta}
 use Rattle.nodes.specs.declared.node.FrameState.{FrameState}
@@ -14,7 +15,7 @@ use Rattle.bwtree.specs.Swaps.{same_head}
 use Rattle.laws.specs.Chains.{Chain}
 use Rattle.laws.specs.Worlds.{World}
 use Rattle.refinement.specs.Resolved.{Ground, store_of, Framed, Resolved, base, on}
-use Rattle.refinement.proofs.Places.{nth_set_other, nth_set_same, nth_set_cases, nth_map, map_set, head_true, head_itself}
+use Rattle.refinement.proofs.Places.{nth_set_other, nth_set_same, nth_set_cases, nth_map, head_true, head_itself}
 use Rattle.refinement.specs.Relation.{busy, Owner, Free, Chained, Held, Group, Reachable, states_of, view, Related}
 use Rattle.refinement.proofs.Moves.{Kept, seat_kept, slot_kept}
 
@@ -40,19 +41,25 @@ mine_seen s u ss o (inl e) p = rw e at p
 mine_seen s u ss o (inr e) p = rw e at p
 
 pub mine_chained : (s n : ℕ) (o : Owner) → Mine s o → o ≡ Chained n → ⊥
-mine_chained s n o (inl e) p = let z : ◌≡◌ {A = ℕ} 0 1 = cc in omega arith
-mine_chained s n o (inr e) p = let z : ◌≡◌ {A = ℕ} 0 1 = cc in omega arith
+mine_chained s n o (inl e) p = grind arith
+mine_chained s n o (inr e) p = grind arith
 
 pub mine_group : (s n : ℕ) (o : Owner) → Mine s o → o ≡ Group n → ⊥
-mine_group s n o (inl e) p = let z : ◌≡◌ {A = ℕ} 0 1 = cc in omega arith
-mine_group s n o (inr e) p = let z : ◌≡◌ {A = ℕ} 0 1 = cc in omega arith
+mine_group s n o (inl e) p = grind arith
+mine_group s n o (inr e) p = grind arith
 
 pub mine_held : (s u : ℕ) (o : Owner) → eqb u s ≡ false → Mine s o → o ≡ Held u → ⊥
-mine_held s u o q (inl e) p = let z : ◌≡◌ {A = ℕ} 0 1 = cc in omega arith
+mine_held s u o q (inl e) p = grind arith
 mine_held s u o q (inr e) p = let y : u ≡ s = cc in both_ways (eqb u s) q (eq-eqb u s y)
 
 pub free_held : (o : Owner) (u : ℕ) → o ≡ Free → o ≡ Held u → ⊥
-free_held o u e p = let z : ◌≡◌ {A = ℕ} 0 1 = cc in omega arith
+free_held o u e p = grind arith
+
+pub held_free : (o : Owner) (s : ℕ) → o ≡ Held s → o ≡ Free → ⊥
+held_free o s e p = grind arith
+
+pub chained_group : (o : Owner) (n j : ℕ) → o ≡ Chained n → o ≡ Group j → ⊥
+chained_group o n j e p = grind arith
 
 -- ---- the record
 
@@ -65,7 +72,7 @@ module _ {K : Type 0} (before : K → K → Bool) (top : Item K) (m : Memory K) 
   taken = owned own (heads.Record i) o
 
   deltas_set : (store_of filled).deltas ≡ set (store_of m).deltas i d
-  deltas_set = map_set (λ (x : Record K). x.delta) m.records i (record { free = b; delta = d })
+  deltas_set = map-set (λ (x : Record K). x.delta) m.records i (record { free = b; delta = d })
 
   pub filled_here : slice_get (store_of filled).deltas i ≡ Some d
   filled_here = ap (λ (ds : List (Delta K)). slice_get ds i) deltas_set ∙ nth_set_same (store_of m).deltas i d r₀.delta (nth_map (λ (x : Record K). x.delta) m.records i r₀ there)

@@ -1,12 +1,12 @@
 -- a slot that a split has filled is empty again
 use Rattle.std.proofs.Common.{◌≡◌, ℕ, Bool, true, false, eqb, List, Some, None, Option, sym, refl, ap, ◌∙◌, subst, ⊎_elim, length-set}
 use Rattle.std.specs.List.{slice_get}
+use Rattle.std.proofs.lemmas.Option.{none-some, same_Some}
 use Rattle.std.proofs.lemmas.Bool.{cases_Bool, both_ways, eqb-true, eq-eqb, ne_eqb}
 use Rattle.nodes.specs.declared.node.Head.{Head}
 use Rattle.nodes.specs.declared.node.Item.{Item}
 use Rattle.nodes.specs.declared.node.Slot.{Slot}
 use Rattle.nodes.specs.Chains.{bind}
-use Rattle.nodes.proofs.Ranges.{none_some, some_same}
 use Rattle.bwtree.specs.declared.seat.Seat.{Seat}
 use Rattle.bwtree.specs.Memory.{Memory, set_slot}
 use Rattle.bwtree.specs.Swaps.{unchanged as same_as}
@@ -21,7 +21,7 @@ head_slot : (slots : List Slot) (n : ℕ) (h : Head) → head_at slots n ≡ Som
 head_slot slots n h e = go (slice_get slots n) refl e
   where
     go : (o : Option Slot) → slice_get slots n ≡ o → bind o (λ x. x.head) ≡ Some h → (x : Slot) × (slice_get slots n ≡ Some x)
-    go None q d = absurd (none_some d)
+    go None q d = absurd (none-some _ d)
     go (Some x) q d = (x, q)
 
 -- no busy seat holds the head that the slot had
@@ -57,7 +57,7 @@ module _ {K : Type 0} (before : K → K → Bool) (top : Item K) (m : Memory K) 
     slots = length-set m.slots n (record { head = None });
     records = λ i q. (q, refl);
     frames = λ f q. (q, λ g l k r xs z. z);
-    spots = λ j f q a b. (other j (ne_eqb j n (λ z. unheld u it e o (subst (λ (k : Head). own k ≡ Held u) (some_same (sym a ∙ ap (head_at m.slots) z ∙ there)) q))) ∙ a, b);
+    spots = λ j f q a b. (other j (ne_eqb j n (λ z. unheld u it e o (subst (λ (k : Head). own k ≡ Held u) (same_Some _ _ (sym a ∙ ap (head_at m.slots) z ∙ there)) q))) ∙ a, b);
   }
 
   leaf_slots : (j : ℕ) → eqb j 0 ≡ false → SlotAs before (store_of m) own j (head_at after.slots j) (find j w.leaves)

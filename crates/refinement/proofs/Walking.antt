@@ -1,7 +1,8 @@
 -- leaf walk: memory follows the index without memory
 use Rattle.std.proofs.Common.{◌≡◌, ℕ, suc, ◌-◌, ◌^◌, ◌≤◌, Bool, true, false, cond, leb, List, [], ◌∷◌, length, Some, None, Option, sym, refl, ap, ◌∙◌, subst, inl, arith}
 use Rattle.std.specs.List.{slice_get}
-use Rattle.std.proofs.lemmas.Bool.{both_ways, cond_both, leb-false, lt-ltb}
+use Rattle.std.proofs.lemmas.Option.{none-some}
+use Rattle.std.proofs.lemmas.Bool.{cond_both, leb-false, lt-ltb}
 use Rattle.keys.specs.Order.{same_key}
 use Rattle.nodes.specs.declared.node.Attributes.{Attributes}
 use Rattle.nodes.specs.declared.node.Head.{Head}
@@ -12,7 +13,6 @@ use Rattle.nodes.specs.declared.node.Kind.TheVariants as kinds
 use Rattle.nodes.specs.declared.node.Record.{Record}
 use Rattle.nodes.specs.Chains.{attributes_of as attributes_in, bind}
 use Rattle.nodes.specs.Items.{insert, remove}
-use Rattle.nodes.proofs.Ranges.{none_some}
 use Rattle.pool.specs.Free.{next_free}
 use Rattle.bwtree.specs.declared.answer.End.TheVariants as ends
 use Rattle.bwtree.specs.declared.seat.Phase.TheVariants as phases
@@ -30,6 +30,7 @@ use Rattle.laws.specs.Calls.{perform}
 use Rattle.laws.specs.Chains.{Chain, On, attributes_of, changed, look, replay}
 use Rattle.laws.specs.Theorem.{impossible}
 use Rattle.laws.specs.Worlds.{Granted, Node, Swap, World}
+use Rattle.laws.proofs.Items.{never}
 use Rattle.refinement.specs.Resolved.{Leaf, store_of, carried, delta_over, Resolved}
 use Rattle.refinement.proofs.Depths.{depth_bound}
 use Rattle.refinement.proofs.Leaving.{follows_ended}
@@ -41,10 +42,6 @@ use Rattle.refinement.specs.Relation.{Owner, Held, Seen, view, Snapshot, leaf_wa
 use Rattle.refinement.proofs.Resolving.{Alike, decided, onward, attributes_read, look_read}
 use Rattle.refinement.proofs.Sitting.{follows_by, follows_goes}
 use Rattle.refinement.proofs.Taking.{filled, taken, filled_here, kept_filled, related_filled, owned_same, free_held}
-
--- no test is both
-pub never : {A : Type 0} → ◌≡◌ {A = Bool} false true → A
-never e = absurd (both_ways false refl e)
 
 module _ {K : Type 0} where
   -- a delta on a head whose numbers are not too large
@@ -63,27 +60,27 @@ module _ {K : Type 0} (before : K → K → Bool) where
 
   -- what a verdict puts has room in a leaf
   puts_fit : (r : Request K) (n : ℕ) (o : Option ℕ) (k : K) (kind : Kind) (v : ℕ) (xs : List (Item K)) → verdict r n o ≡ Some (verdicts.Puts kind v) → n ≡ length xs → length xs ≤ 64 → length (changed before kind k v xs) ≤ 64
-  puts_fit (requests.Lookup j) n None k kind v xs e q l = absurd (let z : ◌≡◌ {A = ℕ} 0 1 = cc in omega arith)
-  puts_fit (requests.Lookup j) n (Some b) k kind v xs e q l = absurd (let z : ◌≡◌ {A = ℕ} 0 1 = cc in omega arith)
+  puts_fit (requests.Lookup j) n None k kind v xs e q l = grind arith
+  puts_fit (requests.Lookup j) n (Some b) k kind v xs e q l = grind arith
   puts_fit (requests.Insert j a) n None k kind v xs e q l = go (leb 64 n) refl
     where
       go : (b : Bool) → leb 64 n ≡ b → length (changed before kind k v xs) ≤ 64
-      go true y = absurd (let f : Some (verdicts.Ends _ 0) ≡ Some (verdicts.Puts kind v) = rw y at e in let z : ◌≡◌ {A = ℕ} 0 1 = cc in omega arith)
+      go true y = absurd (let f : Some (verdicts.Ends _ 0) ≡ Some (verdicts.Puts kind v) = rw y at e in grind arith)
       go false y =
           let f : Some (verdicts.Puts kinds.Insertion a) ≡ Some (verdicts.Puts kind v) = rw y at e in
           let z : kinds.Insertion ≡ kind = cc in
           let i = insert_length k v xs in
           let s = leb-false 64 n y in
           subst (λ (x : Kind). length (changed before x k v xs) ≤ 64) z (omega arith)
-  puts_fit (requests.Insert j a) n (Some b) k kind v xs e q l = absurd (let z : ◌≡◌ {A = ℕ} 0 1 = cc in omega arith)
-  puts_fit (requests.Delete j) n None k kind v xs e q l = absurd (let z : ◌≡◌ {A = ℕ} 0 1 = cc in omega arith)
+  puts_fit (requests.Insert j a) n (Some b) k kind v xs e q l = grind arith
+  puts_fit (requests.Delete j) n None k kind v xs e q l = grind arith
   puts_fit (requests.Delete j) n (Some b) k kind v xs e q l =
       let z : kinds.Deletion ≡ kind = cc in
       let i = remove_length k xs in
       subst (λ (x : Kind). length (changed before x k v xs) ≤ 64) z (omega arith)
-  puts_fit (requests.Consolidate j) n o k kind v xs e q l = absurd (none_some e)
-  puts_fit (requests.Split j) n o k kind v xs e q l = absurd (none_some e)
-  puts_fit requests.ConsolidateRoot n o k kind v xs e q l = absurd (none_some e)
+  puts_fit (requests.Consolidate j) n o k kind v xs e q l = absurd (none-some _ e)
+  puts_fit (requests.Split j) n o k kind v xs e q l = absurd (none-some _ e)
+  puts_fit requests.ConsolidateRoot n o k kind v xs e q l = absurd (none-some _ e)
 
 module _ {K : Type 0} (before : K → K → Bool) (top : Item K) (m : Memory K) (w : World K) (own : Head → Owner) (related : Related before top m w own) (s : ℕ) (it : Seat K) (at_s : slice_get m.seats s ≡ Some it) (same : it.request ≡ (w.seats s).request)
     (granted : Granted) (grants : granted.records ≡ is_there (next_free (λ (r : Record K). r.free) m.records it.cursors.records)) where

@@ -1,9 +1,9 @@
 -- the weight of lists of record numbers: their totals, one number alone, and the free records
 use Rattle.std.proofs.Common.{◌≡◌, ℕ, zero, suc, ◌+◌, ◌<◌, ◌≤◌, Bool, true, false, cond, eqb, List, [], ◌∷◌, ◌++◌, length, set, Some, refl, ap, ◌∙◌, subst, ⊎_elim, arith}
 use Rattle.std.specs.List.{slice_get, flat_map}
+use Rattle.std.proofs.lemmas.Option.{none-some, same_Some}
 use Rattle.std.proofs.lemmas.Bool.{cases_Bool, eq-eqb, eqb-true, ne_eqb}
 use Rattle.nodes.specs.declared.node.Record.{Record}
-use Rattle.nodes.proofs.Ranges.{none_some, some_same}
 use Rattle.bwtree.specs.Reports.{total}
 use Rattle.refinement.specs.Accounts.{numbers, free_from}
 
@@ -28,13 +28,13 @@ module _ {X : Type 0} where
   total_same f g (x ∷ xs) e = let a = e 0 x refl in let b = total_same f g xs (λ n y q. e (suc n) y q) in omega arith
 
   pub total_part : (f : X → ℕ) (xs : List X) (n : ℕ) (x : X) → slice_get xs n ≡ Some x → f x ≤ total f xs
-  total_part f [] n x e = absurd (none_some e)
-  total_part f (y ∷ ys) zero x e = let q = ap f (some_same e) in omega arith
+  total_part f [] n x e = absurd (none-some _ e)
+  total_part f (y ∷ ys) zero x e = let q = ap f (same_Some _ _ e) in omega arith
   total_part f (y ∷ ys) (suc n) x e = let h = total_part f ys n x e in omega arith
 
   pub total_set : (f : X → ℕ) (xs : List X) (n : ℕ) (x y : X) → slice_get xs n ≡ Some x → total f (set xs n y) + f x ≡ total f xs + f y
-  total_set f [] n x y e = absurd (none_some e)
-  total_set f (z ∷ zs) zero x y e = let q = ap f (some_same e) in omega arith
+  total_set f [] n x y e = absurd (none-some _ e)
+  total_set f (z ∷ zs) zero x y e = let q = ap f (same_Some _ _ e) in omega arith
   total_set f (z ∷ zs) (suc n) x y e = let h = total_set f zs n x y e in omega arith
 
 -- ---- one number
@@ -76,9 +76,9 @@ module _ {K : Type 0} where
       go false e = rw e (omega arith)
 
   free_set_from : (f : ℕ → ℕ) (b : ℕ) (rs : List (Record K)) (i : ℕ) (r y : Record K) → slice_get rs i ≡ Some r → total f (free_from b (set rs i y)) + free_at f (b + i) r ≡ total f (free_from b rs) + free_at f (b + i) y
-  free_set_from f b [] i r y e = absurd (none_some e)
+  free_set_from f b [] i r y e = absurd (none-some _ e)
   free_set_from f b (z ∷ zs) zero r y e =
-      let q : z ≡ r = some_same e in
+      let q : z ≡ r = same_Some _ _ e in
       let n : b + 0 ≡ b = omega arith in
       let a = free_cons f b z zs in
       let c = free_cons f b y zs in

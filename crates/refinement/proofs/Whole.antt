@@ -1,14 +1,15 @@
 -- the theorem, put together: an index over lent memory behaves as a plain map
 use Rattle.std.proofs.Common.{◌≡◌, ℕ, ◌-◌, ◌<◌, ◌≤◌, Bool, true, false, List, [], ◌∷◌, map, length, set, Some, sym, refl, ap, ◌∙◌, subst, zero-add, arith, length-set}
 use Rattle.std.specs.List.{slice_get, AllByRecursion}
+use Rattle.std.proofs.lemmas.List.{length-map}
+use Rattle.std.proofs.lemmas.Option.{same_Some}
 use Rattle.std.proofs.lemmas.Bool.{lt-ltb}
 use Rattle.keys.specs.Order.{Lawful}
 use Rattle.image.specs.declared.entry.Entry.{Entry}
 use Rattle.nodes.specs.declared.node.Item.{Item}
 use Rattle.nodes.specs.Build.{puts}
 use Rattle.nodes.specs.Items.{ascends, lookup}
-use Rattle.nodes.proofs.Items.{ascending_from}
-use Rattle.nodes.proofs.Ranges.{some_same}
+use Rattle.nodes.proofs.ItemLists.{ascending_from}
 use Rattle.bwtree.specs.declared.call.Call.{Call}
 use Rattle.bwtree.specs.declared.seat.Seat.{Seat}
 use Rattle.bwtree.specs.declared.sizes.Sizes.{Sizes}
@@ -41,7 +42,7 @@ use Rattle.refinement.proofs.Lengths.{SameLengths, long_fits}
 use Rattle.refinement.proofs.Loaded.{loaded_index_follows}
 use Rattle.refinement.proofs.Numbered.{length_numbered}
 use Rattle.refinement.proofs.Parting.{start_fits, start_items, start_slots}
-use Rattle.refinement.proofs.Places.{keys_of, length_map, length_puts, nth_map, nth_there, values_of}
+use Rattle.refinement.proofs.Places.{keys_of, length_puts, nth_map, nth_there, values_of}
 use Rattle.refinement.proofs.Refusing.{refusal_keeps}
 use Rattle.refinement.proofs.Reporting.{report_counts, report_is}
 use Rattle.refinement.proofs.Room.{room_enough}
@@ -56,14 +57,14 @@ module _ {K : Type 0} where
       let separators = separators_from es 2 (leaves_for (length es) - 1) in
       record {
         slots = length_numbered (slot_at (leaves_for (length es))) 0 m.slots;
-        records = length_map freed m.records;
+        records = length-map m.records freed;
         frames = length_numbered (frame_at es) 0 m.frames;
         keys = length_puts (puts m.keys 64 (keys_of laid)) 1 (keys_of separators) ∙ length_puts m.keys 64 (keys_of laid);
         values = length_puts (set (puts m.values 64 (values_of laid)) 0 1) 1 (values_of separators) ∙ length-set (puts m.values 64 (values_of laid)) 0 1 ∙ length_puts m.values 64 (values_of laid);
       }
 
   loaded_fits : (z : Sizes) (m : Memory K) (es : List (Entry K)) → fits z m ≡ true → fits z (index_over m es) ≡ true
-  loaded_fits z m es e = long_fits z (loaded_lengths m es) (length_map (λ (x : Seat K). fresh_seat) m.seats) ∙ e
+  loaded_fits z m es e = long_fits z (loaded_lengths m es) (length-map m.seats (λ (x : Seat K). fresh_seat)) ∙ e
 
   -- entries and items are the same pairs
   items_entries : (xs : List (Item K)) → map item_of (map entry_of xs) ≡ xs
@@ -84,13 +85,13 @@ module _ {K : Type 0} (before : K → K → Bool) (law : Lawful K before) (z : S
     entries_here = entries_are before top m w k.own k.related k.invariant.founded items along_here
 
     room_here : has_room z (length (map entry_of items)) ≡ true
-    room_here = ap (has_room z) (length_map entry_of items) ∙ room_enough law top m w k.own k.related k.invariant.founded items along_here z k.lengths
+    room_here = ap (has_room z) (length-map items entry_of) ∙ room_enough law top m w k.own k.related k.invariant.founded items along_here z k.lengths
 
   -- a call that does not answer stored or removed leaves the entries
   entries_same : (m : Memory K) (w : World K) (k : Keeps before law z lawful top m w) (c : Call K) (o : Outcome K) → call_in before z m c ≡ Some o → changing o.answer ≡ false → entries_held before o.memory ≡ Some (map entry_of (items m w k))
   entries_same m w k c o e h =
       let f = call_follows before law z lawful top m w k c in
-      let same : f.outcome ≡ o = some_same (sym f.is ∙ e) in
+      let same : f.outcome ≡ o = same_Some _ _ (sym f.is ∙ e) in
       let q : changing (call before w f.granted (without_memory c)).answer ≡ false = ap changing (sym f.answer) ∙ ap (λ (x : Outcome K). changing x.answer) same ∙ h in
       ap (λ (x : Outcome K). entries_held before x.memory) (sym same)
       ∙ entries_here f.outcome.memory (call before w f.granted (without_memory c)).world f.keeps

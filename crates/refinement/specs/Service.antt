@@ -1,10 +1,11 @@
 -- an index in service: calls one after the other over its memory, and the history that they leave
-use Rattle.std.specs.Prelude.{ℕ, ◌+◌, Bool, cond, List, [], ◌∷◌, Some, None, Option, ◌==◌}
+use Rattle.std.specs.Prelude.{ℕ, ◌+◌, Bool, cond, List, [], ◌∷◌, Some, None, Option, Ok, Result, ◌==◌}
 use Rattle.std.specs.List.{slice_get}
 use Rattle.nodes.specs.declared.node.Head.{Head}
 use Rattle.nodes.specs.Chains.{bind}
 use Rattle.bwtree.specs.declared.answer.Answer.{Answer}
 use Rattle.bwtree.specs.declared.answer.Answer.TheVariants as answers
+use Rattle.bwtree.specs.declared.answer.Refusal.{Refusal}
 use Rattle.bwtree.specs.declared.seat.Phase.{Phase}
 use Rattle.bwtree.specs.declared.seat.Phase.TheVariants as phases
 use Rattle.bwtree.specs.declared.seat.Request.{Request}
@@ -21,12 +22,9 @@ use Rattle.laws.specs.Histories.{one_installed}
 use Rattle.laws.specs.Worlds.{Call as CallWithoutMemory, Begin, Step, Tell}
 
 -- a begin opens an operation where it is not refused
-abbrev pub did_begin : Answer → Did
-did_begin answers.Begun = Opened
-did_begin answers.Going = Otherwise
-did_begin (answers.Ended e) = Otherwise
-did_begin (answers.Reported r) = Otherwise
-did_begin (answers.Refused r) = Otherwise
+abbrev pub did_begin : Result Answer Refusal → Did
+did_begin (Ok answers.Begun) = Opened
+did_begin _ = Otherwise
 
 module _ {K : Type 0} where
   -- the same call of the index without memory
@@ -58,7 +56,7 @@ module _ {K : Type 0} where
   did_at m (Some it) = did_step m it.phase
 
   -- what a call does, on this memory and with this answer
-  abbrev pub did : Memory K → Call K → Answer → Did
+  abbrev pub did : Memory K → Call K → Result Answer Refusal → Did
   did m (calls.Begin s r) a = did_begin a
   did m (calls.Step s) a = did_at m (slice_get m.seats s)
   did m (calls.Report s) a = Otherwise

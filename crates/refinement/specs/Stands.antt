@@ -1,6 +1,6 @@
 -- the theorem: an index over memory that is lent to its calls behaves as a plain map, whatever calls of the four seats
 -- come in which order
-use Rattle.std.specs.Prelude.{◌≡◌, ℕ, ◌<◌, ◌≤◌, Bool, true, false, List, [], ◌∷◌, map, length, Some, None, Option, ◌≢◌}
+use Rattle.std.specs.Prelude.{◌≡◌, ℕ, ◌<◌, ◌≤◌, Bool, true, false, List, [], ◌∷◌, map, length, Some, None, Option, Ok, Err, ◌≢◌}
 use Rattle.std.specs.List.{slice_get, AllByRecursion}
 use Rattle.image.specs.declared.entry.Entry.{Entry}
 use Rattle.nodes.specs.declared.node.Frame.{Frame}
@@ -84,7 +84,7 @@ module _ {K : Type 0} (before : K → K → Bool) where
   -- many records are free, chained, held and waiting
   pub record TrueReport (z : Sizes) (m : Memory K) (h : List (Event K)) (s : ℕ) : Type 0 where
     pub told : Report
-    pub is : report z m s ≡ Some (record { memory = m; answer = answers.Reported told })
+    pub is : report z m s ≡ Some (record { memory = m; answer = Ok (answers.Reported told) })
     pub installed : told.installed ≡ capped (installed_by s h)
     pub failed : told.failed ≡ capped (failed_by s h)
     pub counts : Counts m told
@@ -126,7 +126,7 @@ module _ {K : Type 0} (before : K → K → Bool) where
     pub safe : (s : ℕ) (it : Seat K) → slice_get served.memory.seats s ≡ Some it → Safe served.memory it.phase
     -- of the next call: only the answers stored and removed change a pair, and a refusal changes nothing at all
     pub keeps : (c : Call K) (o : Outcome K) → call before z served.memory c ≡ Some o → changing o.answer ≡ false → entries_held before o.memory ≡ Some entries
-    pub refuses : (c : Call K) (o : Outcome K) (r : Refusal) → call before z served.memory c ≡ Some o → o.answer ≡ answers.Refused r → o.memory ≡ served.memory
+    pub refuses : (c : Call K) (o : Outcome K) (r : Refusal) → call before z served.memory c ≡ Some o → o.answer ≡ Err r → o.memory ≡ served.memory
 
   -- the start of an index: the memory of an index at rest that was loaded with entries. A new index is loaded with none
   pub record Start (z : Sizes) (m : Memory K) (es : List (Entry K)) : Type 0 where

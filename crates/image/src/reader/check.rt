@@ -1,36 +1,32 @@
 ghost use Rattle.std.specs.Prelude.{◌≡◌, true, List, length, is_ok, if◌then◌else◌, Some, None, Ok, MatchResult, nat_lt};
 ghost use Rattle.image.specs.declared.entry.Entry.{Entry};
-ghost use Rattle.image.specs.Image.{IsImage, count_in, entries_in, entries_of, keys_of, width_in};
+ghost use Rattle.image.specs.Image.{IsImage, count_in, entries_of, keys_of, width_in};
+ghost use Rattle.image.specs.Read.{entries_read};
 ghost use Rattle.image.specs.Verdict.{first_unordered, sizes_verdict, verdict};
 
 use super::Reader;
 use crate::entry::MOST_ENTRIES;
+use crate::order::first_unordered;
 use crate::refusal::Refusal;
 use keys::byte_form::ByteForm;
-use keys::number::from_two;
+use keys::number::read_number;
 
 /// The width and the count that bytes name, absent where there are fewer than the four bytes that hold them.
 fn sizes(bytes: &[u8]) -> Option<(u16, u16)>
     ensures { result ≡ (if nat_lt (length bytes.now) 4 then None else Some (width_in bytes.now, count_in bytes.now)) }
 {
-    if bytes.len() < 4 {
-        return None;
-    }
-    let width = from_two(&bytes[0..2])?;
-    let count = from_two(&bytes[2..4])?;
+    let width = read_number(bytes.get(0..2)?)?;
+    let count = read_number(bytes.get(2..4)?)?;
     Some((width, count))
 }
 
 /// How many entries bytes hold whose sizes are right; the order of the keys is not looked at.
 fn counted<K: ByteForm>(image: &[u8]) -> Result<usize, Refusal>
-    ensures { result ≡ sizes_verdict K.ByteForm.width image.now }
+    ensures { result ≡ sizes_verdict K.ByteForm.WIDTH image.now }
 {
-    let Some((width, count)) = sizes(image) else {
-        return Err(Refusal::Length);
-    };
-    let width = width as usize;
-    let count = count as usize;
-    if width != K::width_in_bytes() {
+    let (width, count) = sizes(image).ok_or(Refusal::Length)?;
+    let (width, count) = (usize::from(width), usize::from(count));
+    if width != K::WIDTH {
         return Err(Refusal::Width);
     }
     if image.len() != 4 + count * (width + 8) {
@@ -44,25 +40,21 @@ fn counted<K: ByteForm>(image: &[u8]) -> Result<usize, Refusal>
 
 /// Checks that bytes are an image of entries with keys of the kind. On success the reader reads them; on refusal it is
 /// as it was.
+// The caller lends the place of the reader: a check that refuses leaves there what was read before.
 pub fn check<'a, K: ByteForm>(reader: &mut Reader<'a>, image: &'a [u8]) -> Result<(), Refusal>
-    ensures answer { result ≡ verdict K.Ordered.before K.ByteForm.width K.ByteForm.key_of image.now }
+    ensures answer { result ≡ verdict K.Ordered.before K.ByteForm.WIDTH K.ByteForm.key_of image.now }
     ensures reads { MatchResult result
-        (λ _. (reader.new.image.now ≡ image.now) × (reader.new.width ≡ K.ByteForm.width) × (reader.new.count ≡ count_in image.now))
+        (λ _. (reader.new.image.now ≡ image.now) × (reader.new.width ≡ K.ByteForm.WIDTH) × (reader.new.count ≡ count_in image.now))
         (λ _. reader.new ≡ reader.old) }
-    ensures accepted { is_ok result ≡ true → IsImage K.Ordered.before K.ByteForm.width K.ByteForm.form image.now (entries_of K.ByteForm.key_of K.ByteForm.width image.now) }
-    ensures exactly { (es : List (Entry K)) → IsImage K.Ordered.before K.ByteForm.width K.ByteForm.form image.now es → (is_ok result ≡ true) × (es ≡ entries_of K.ByteForm.key_of K.ByteForm.width image.now) }
+    ensures accepted { is_ok result ≡ true → IsImage K.Ordered.before K.ByteForm.WIDTH K.ByteForm.form image.now (entries_of K.ByteForm.key_of K.ByteForm.WIDTH image.now) }
+    ensures exactly { (es : List (Entry K)) → IsImage K.Ordered.before K.ByteForm.WIDTH K.ByteForm.form image.now es → (is_ok result ≡ true) × (es ≡ entries_of K.ByteForm.key_of K.ByteForm.WIDTH image.now) }
 {
-    let count = match counted::<K>(image) {
-        Ok(count) => count,
-        Err(refusal) => return Err(refusal),
-    };
-    let width = K::width_in_bytes();
     let sized = Reader {
         image,
-        width,
-        count,
+        width: K::WIDTH,
+        count: counted::<K>(image)?,
     };
-    if let Some(place) = sized.first_unordered::<K>() {
+    if let Some(place) = sized.unordered::<K>() {
         return Err(Refusal::Order { place });
     }
     *reader = sized;
@@ -71,22 +63,10 @@ pub fn check<'a, K: ByteForm>(reader: &mut Reader<'a>, image: &'a [u8]) -> Resul
 
 impl<'a> Reader<'a> {
     /// The first place whose key does not stand after the one before it.
-    fn first_unordered<K: ByteForm>(&self) -> Option<usize>
-        requires { self.now.width ≡ K.ByteForm.width }
-        ensures { result ≡ first_unordered K.Ordered.before (keys_of (entries_in K.ByteForm.key_of self.now.width self.now.count self.now.image.now)) }
+    fn unordered<K: ByteForm>(&self) -> Option<usize>
+        ensures { result ≡ first_unordered K.Ordered.before (keys_of (entries_read K.ByteForm.WIDTH K.ByteForm.key_of self.now)) }
     {
-        let Some(first) = self.decoded::<K>(0) else {
-            return None;
-        };
-        let mut previous = first.key;
-        let mut place = 1;
-        while let Some(entry) = self.decoded::<K>(place) {
-            if !previous.stands_before(&entry.key) {
-                return Some(place);
-            }
-            previous = entry.key;
-            place += 1;
-        }
-        None
+        let entries = (0..self.count).filter_map(|place| self.decoded::<K>(place));
+        first_unordered(entries.map(|entry| entry.key))
     }
 }

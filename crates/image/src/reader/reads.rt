@@ -1,12 +1,11 @@
-ghost use Rattle.std.specs.Prelude.{◌≡◌, length, if◌then◌else◌, None, nat_eq};
-ghost use Rattle.image.specs.Image.{entries_in};
-ghost use Rattle.image.specs.Read.{bytes_of_pair, decoded_pair, entry_parts};
+ghost use Rattle.std.specs.Prelude.{◌≡◌, length};
+ghost use Rattle.image.specs.Read.{bytes_of_pair, decoded_pair, entries_read, entry_parts};
 ghost use Rattle.std.specs.List.{slice_get};
 
 use super::Reader;
 use crate::entry::Entry;
 use keys::byte_form::ByteForm;
-use keys::number::from_eight;
+use keys::number::read_number;
 
 impl<'a> Reader<'a> {
     /// A reader of no bytes and no entries.
@@ -42,20 +41,18 @@ impl<'a> Reader<'a> {
 
     /// The entry at a place, absent past the last entry and where the image's keys are not as wide as the kind's.
     pub fn decoded<K: ByteForm>(&self, place: usize) -> Option<Entry<K>>
-        ensures { result ≡ (if nat_eq self.now.width K.ByteForm.width then slice_get (entries_in K.ByteForm.key_of self.now.width self.now.count self.now.image.now) place else None) }
+        ensures { result ≡ slice_get (entries_read K.ByteForm.WIDTH K.ByteForm.key_of self.now) place }
     {
-        match self.entry(place) {
-            Some((key, value)) => decode(key, value),
-            None => None,
-        }
+        let (key, value) = self.entry(place)?;
+        decode(key, value)
     }
 }
 
 /// The entry whose key and value have those bytes, absent where either has another number of bytes.
 fn decode<K: ByteForm>(key: &[u8], value: &[u8]) -> Option<Entry<K>>
-    ensures { result ≡ decoded_pair K.ByteForm.key_of K.ByteForm.width key.now value.now }
+    ensures { result ≡ decoded_pair K.ByteForm.key_of K.ByteForm.WIDTH key.now value.now }
 {
     let key = K::read(key)?;
-    let value = from_eight(value)?;
+    let value = read_number(value)?;
     Some(Entry { key, value })
 }

@@ -5,7 +5,8 @@ ghost use Rattle.std.specs.Iterator.{at_most};
 use super::Reader;
 
 /// A part of an image that a walk comes to.
-#[derive(Clone, Copy)]
+// Two cases, not one with a flag: a walk tells key from value by its case.
+#[derive(Clone, Copy, Debug, PartialEq, Eq)]
 pub enum Part<'a> {
     Sizes(&'a [u8]),
     Key { place: usize, bytes: &'a [u8] },
@@ -14,29 +15,24 @@ pub enum Part<'a> {
 
 impl<'a> Reader<'a> {
     /// The part at a step of the walk: the sizes, then the key and the value of each entry. Absent past the last part.
+    // A step is a number: the part at any one may be asked for, without those before it.
     pub fn part(&self, step: usize) -> Option<Part<'a>>
         ensures bytes { view_of_option result ≡ part_at self.now.width self.now.count self.now.image.now step }
         ensures steps { is_some result ≡ true → step + 1 < 2 ^ 64 }
     {
-        let image = self.image;
         if step == 0 {
-            if image.len() < 4 {
-                return None;
-            }
-            return Some(Part::Sizes(&image[0..4]));
+            return Some(Part::Sizes(self.image.get(0..4)?));
         }
         let place = (step - 1) / 2;
-        let Some((key, value)) = self.entry(place) else {
-            return None;
-        };
-        if step % 2 == 1 {
-            Some(Part::Key { place, bytes: key })
+        let (key, value) = self.entry(place)?;
+        Some(if step % 2 == 1 {
+            Part::Key { place, bytes: key }
         } else {
-            Some(Part::Value {
+            Part::Value {
                 place,
                 bytes: value,
-            })
-        }
+            }
+        })
     }
 
     /// A walk over all parts, from the first.
@@ -51,7 +47,7 @@ impl<'a> Reader<'a> {
 }
 
 /// A walk over the parts of an image.
-#[derive(Clone, Copy)]
+#[derive(Clone, Copy, Debug, PartialEq, Eq)]
 pub struct Walk<'a> {
     reader: Reader<'a>,
     step: usize,
@@ -65,9 +61,7 @@ impl<'a> Iterator for Walk<'a> {
     ghost remaining = { λ s. at_most (1 + 2 * s.reader.count - s.step) };
 
     fn next(&mut self) -> Option<Part<'a>> {
-        let Some(part) = self.reader.part(self.step) else {
-            return None;
-        };
+        let part = self.reader.part(self.step)?;
         self.step += 1;
         Some(part)
     }

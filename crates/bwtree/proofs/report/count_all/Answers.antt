@@ -1,15 +1,12 @@
-use Rattle.std.proofs.Common.{arith}
-use Rattle.std.proofs.lemmas.List.{at_drop_all}
-use Rattle.bwtree.specs.Reports.{total}
-use Rattle.bwtree.proofs.Totals.{total_more}
+use Rattle.std.proofs.Common.{◌+◌, ◌∙◌, rules, arith}
+use Rattle.std.proofs.lemmas.Iterator.{YieldsList-from_slice}
+use Rattle.std.proofs.lemmas.Iterator.Consumers.{fold_from_yields_List}
+use Rattle.bwtree.specs.Reports.{capped}
+use Rattle.bwtree.proofs.Totals.{capped_fold}
 use Rattle.bwtree.proofs.report.count_all.Goals as goal
-
-pub loop-x-preserved : goal.loop-x-preserved
-loop-x-preserved g c =
-    let more = total_more g.T.Counts.count c.args.xs.now c.loop-x.x-index c.x-item.result (omega arith) c.x-item.is in
-    (omega (arith, more, c.loop-x.invariant.0, c.count.ensures, c.saturating_add-sum.ensures), omega arith)
 
 pub returns : goal.returns
 returns g c =
-    let end = at_drop_all (total g.T.Counts.count) c.args.xs.now c.loop-x.x-index (omega arith) in
-    omega (arith, end, c.loop-x.invariant.0)
+    fold_from_yields_List _ (λ s x. capped (s + g.T.Counts.count x)) 0 c.fold.result c.fold.ensures.ran
+    (YieldsList-from_slice c.args.xs.now c.iter.ensures.rest) (λ a x b q k. search rules)
+    ∙ capped_fold g.T.Counts.count 0 c.args.xs.now (omega arith) ∙ search rules

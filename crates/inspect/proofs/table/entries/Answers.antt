@@ -1,26 +1,16 @@
-use Rattle.std.proofs.Common.{eqb}
-use Rattle.image.specs.Image.{entries_in}
-use Rattle.inspect.proofs.Entries.{collected_all, collected_less, collected_more, found_at}
+use Rattle.std.proofs.Common.{arith, rules}
+use Rattle.std.specs.List.{slice_get}
+use Rattle.std.proofs.lemmas.Iterator.{YieldsList-from_range, items_from_collect}
+use Rattle.std.proofs.lemmas.Iterator.Consumers.{YieldsList-from_filter_map}
+use Rattle.image.specs.Read.{entries_read}
+use Rattle.image.proofs.Places.{all_found, length-held_le}
+use Rattle.inspect.proofs.Entries.{items_equal}
 use Rattle.inspect.proofs.table.entries.Goals as goal
-
-pub loop-entry-smaller : goal.loop-entry-smaller
-loop-entry-smaller g c =
-    let reader = c.args.reader.now in
-    let all = entries_in g.K.ByteForm.key_of reader.width reader.count reader.image.now in
-    collected_less _ _ _ _
-    (found_at (eqb reader.width g.K.ByteForm.width) all _ _ _ _ c.decoded.ensures c.in-Some.is c.len.ensures)
-    c.in_ok-push.ensures.len
-
-pub loop-entry-preserved : goal.loop-entry-preserved
-loop-entry-preserved g c =
-    let reader = c.args.reader.now in
-    let all = entries_in g.K.ByteForm.key_of reader.width reader.count reader.image.now in
-    collected_more _ _ _ _ _ _ c.loop-entry.invariant c.in_ok-push.ensures.items c.in_ok-push.ensures.len
-    (found_at (eqb reader.width g.K.ByteForm.width) all _ _ _ _ c.decoded.ensures c.in-Some.is c.len.ensures)
 
 pub returns : goal.returns
 returns g c =
-    let reader = c.args.reader.now in
-    let all = entries_in g.K.ByteForm.key_of reader.width reader.count reader.image.now in
-    collected_all _ _ _ c.loop-entry.invariant
-    (found_at (eqb reader.width g.K.ByteForm.width) all _ _ _ _ c.decoded.ensures c.in_default.is c.len.ensures)
+    let held = entries_read g.K.ByteForm.WIDTH g.K.ByteForm.key_of c.args.reader.now in
+    items_equal c.collect.result (all_found held c.args.reader.now.count (length-held_le g.K.ByteForm.key_of g.K.ByteForm.WIDTH c.args.reader.now))
+    (items_from_collect {s = c.filter_map.result} c.collect.result c.collect.ensures.ran
+    (YieldsList-from_filter_map _ (slice_get held) (YieldsList-from_range 0 c.args.reader.now.count c.args.reader.now.count (cc) (omega arith)) c.filter_map.ensures.closure
+    (λ x r q k. search rules)))

@@ -1,18 +1,14 @@
-use Rattle.std.proofs.Common.{sym, ◌∙◌, arith}
-use Rattle.std.proofs.lemmas.List.{at_drop_all}
-use Rattle.pool.specs.Free.{first_in}
-use Rattle.pool.proofs.Firsts.{first_here, first_next}
+use Rattle.std.proofs.Common.{◌+◌, sym, ap, ◌∙◌}
+use Rattle.std.specs.Option.{option_map}
+use Rattle.pool.proofs.Firsts.{first_past}
 use Rattle.pool.proofs.free.first_from.Goals as goal
 
-pub returns-then-is_free : goal.returns-then-is_free
-returns-then-is_free g c =
-    sym (first_here g.T.Pooled.free c.args.xs.now c.loop-at.at c.index-xs-at.result (omega arith) c.index-xs-at.is (sym c.if-is_free.ensures))
-    ∙ c.loop-at.invariant
-
-pub loop-at-preserved : goal.loop-at-preserved
-loop-at-preserved g c =
-    first_next g.T.Pooled.free c.args.xs.now c.loop-at.at c.index-xs-at.result (omega arith) c.index-xs-at.is (sym c.if-is_free.ensures)
-    ∙ c.loop-at.invariant
+pub returns-in_err-place : goal.returns-in_err-place
+returns-in_err-place g c =
+    c.from_residual-in_err-place.ensures ∙ ap (option_map (λ n. c.args.from + n)) (sym c.in_err-place.was)
+    ∙ first_past g.T.Pooled.free c.args.xs.now c.in_ok-get.field-0.now c.args.from c.first_free.result c.in_ok-get.ensures.lookup.0.2 c.first_free.ensures
 
 pub returns : goal.returns
-returns g c = sym (at_drop_all (first_in g.T.Pooled.free c.loop-at.at) c.args.xs.now c.loop-at.at (omega arith)) ∙ c.loop-at.invariant
+returns g c =
+    ap (option_map (λ n. c.args.from + n)) (sym c.in_ok-place.was)
+    ∙ first_past g.T.Pooled.free c.args.xs.now c.in_ok-get.field-0.now c.args.from c.first_free.result c.in_ok-get.ensures.lookup.0.2 c.first_free.ensures

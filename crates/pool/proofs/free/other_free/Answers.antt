@@ -1,20 +1,10 @@
-use Rattle.std.proofs.Common.{◌+◌, take, ap, ◌∙◌, arith}
-use native.Mathlib.Nat.{sub-zero}
-use Rattle.std.proofs.lemmas.List.{drop_all, take_all}
-use Rattle.nodes.specs.Items.{or_else}
-use Rattle.pool.specs.Free.{first_in}
+use Rattle.std.proofs.Common.{◌∙◌, ◌+◌, arith}
+use Rattle.std.proofs.Math.ListN.{drop_of_length-le}
+use Rattle.std.proofs.lemmas.List.{take_all}
+use Rattle.pool.proofs.Firsts.{first_whole}
 use Rattle.pool.proofs.free.other_free.Goals as goal
 
 pub returns-then-i-xs : goal.returns-then-i-xs
 returns-then-i-xs g c =
-    let none = drop_all (c.args.i + 1) c.args.xs.now (omega arith) in
-    let all = take_all c.args.i c.args.xs.now (omega arith) in
-    c.first_from.ensures ∙ rw (none, all)
-
-pub returns-in-Some : goal.returns-in-Some
-returns-in-Some g c = ap (λ o. or_else o (first_in g.T.Pooled.free 0 (take c.args.i c.args.xs.now))) c.in-Some.ensures
-
-pub returns-in-None : goal.returns-in-None
-returns-in-None g c =
-    simp sub-zero at c.first_from-in-None.ensures
-    ∙ ap (λ o. or_else o (first_in g.T.Pooled.free 0 (take c.args.i c.args.xs.now))) c.in-None.ensures
+    rw (drop_of_length-le c.args.xs.now {i = c.args.i + 1} (omega (arith, c.if-i-xs.true)), take_all c.args.i c.args.xs.now c.if-i-xs.true)
+    (c.first_free.ensures ∙ first_whole g.T.Pooled.free c.args.xs.now)
