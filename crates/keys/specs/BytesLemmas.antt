@@ -1,9 +1,11 @@
 -- numbers in bytes, and bytes in two parts
-use Rattle.std.specs.Prelude.{◌≡◌, ℕ, zero, suc, ◌+◌, ◌*◌, ◌/◌, ◌%◌, ◌^◌, ◌<◌, List, [], ◌∷◌, ◌++◌, length, take, drop, slice_index, refl}
-use Rattle.std.proofs.Common.{sym, ap, ◌∙◌, arith, div-add-mod', mod-lt, mul_comm, pow-suc, length-drop, length-take, take-append-drop}
+use Rattle.std.specs.Prelude.{◌≡◌, ℕ, zero, suc, ◌+◌, ◌*◌, ◌/◌, ◌%◌, ◌^◌, ◌<◌, ◌≤◌, cond, List, [], ◌∷◌, ◌++◌, length, take, drop, Some, None, ◌==◌, slice_index, refl}
+use Rattle.std.proofs.Common.{sym, ap, ◌∙◌, append-nil, arith, div-add-mod', mod-lt, mul_comm, pow-suc, length-drop, length-take, take-append-drop}
 use Rattle.std.proofs.Math.Nat.{one-le-pow}
+use borrow.Rule.Slice.PartMut.{put_mid, post_of}
 use Rattle.std.proofs.Math.Arith.{digits_lt, digits_div, digits_mod}
-use Rattle.std.proofs.lemmas.List.{take_at, drop_at}
+use Rattle.std.proofs.lemmas.List.{take_all, take_at, drop_at, drop_all}
+use Rattle.std.proofs.lemmas.Bool.{cases_Bool}
 use Rattle.keys.specs.Bytes.{Bytes, big_endian, number_of}
 
 pub length-big_endian : (w n : ℕ) → length (big_endian w n) ≡ w
@@ -75,7 +77,21 @@ bytes_drop zero bs h = h
 bytes_drop (suc n) [] h = tt
 bytes_drop (suc n) (b ∷ bs) h = bytes_drop n bs h.1
 
--- a form in two parts: made of any bytes, and told apart
+-- what a read answers where it answers a number
+pub read_is : (w : ℕ) (bs : List ℕ) (n : ℕ) → Some n ≡ cond (length bs == w) (Some (number_of bs)) None → n ≡ number_of bs
+read_is w bs n e = grind (arith, cases_Bool (length bs == w))
+
+-- the last part of bytes of a known length
+pub take_last : (m n : ℕ) (bs : List ℕ) → length bs ≡ m + n → take n (drop m bs) ≡ drop m bs
+take_last m n bs l = let d : length (drop m bs) ≤ n = simp length-drop (omega arith) in take_all n (drop m bs) d
+
+-- a form in two parts: written one after the other, made of any bytes, and told apart
+pub parts_written : (m n : ℕ) (xs ys zs : List ℕ) → length xs ≡ m → length ys ≡ n → length zs ≡ m + n
+    → put_mid m n (xs ++ post_of 0 m zs) ys ≡ xs ++ ys
+parts_written m n xs ys zs p q l =
+    let d : length (drop m zs) ≤ n = simp length-drop (omega arith) in
+    rw (take_at xs (drop m zs) m p, drop_at xs (drop m zs) m p, drop_all n (drop m zs) d, append-nil)
+
 pub parts_every : (m n : ℕ) (bs : List ℕ) → length bs ≡ m + n → Bytes bs
     → big_endian m (number_of (take m bs)) ++ big_endian n (number_of (drop m bs)) ≡ bs
 parts_every m n bs l h =
