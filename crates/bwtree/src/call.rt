@@ -1,13 +1,16 @@
 //! A call as a value, and the function that makes it.
 
+ghost use Rattle.std.specs.Prelude.{Some};
+ghost use Rattle.nodes.specs.Build.{Promised};
 ghost use Rattle.bwtree.specs.Calls.{call as call_rule};
 ghost use Rattle.bwtree.specs.Lent.{Follows, held};
 
 use crate::answer::{Answer, Refusal};
 use crate::memory::LentMemory;
-use crate::seat::Request;
+use crate::seat::{Request, Seat};
 use crate::sizes::Sizes;
 use keys::order::Ordered;
+use nodes::node::{Frame, Record, Slot};
 
 /// A call of an index in service, with the number of its seat.
 #[derive(Clone, Copy, Debug, PartialEq, Eq)]
@@ -29,4 +32,30 @@ impl<K: Ordered> LentMemory<'_, K> {
             Call::Report(number) => self.report(sizes, number),
         }
     }
+}
+
+/// Makes a call on six arrays: they hold what the rule says, wherever it gives an outcome.
+// For an owner of all six, as of vectors in a struct: there the check does not find what a call by a LentMemory made of them.
+pub fn call_on_arrays<K: Ordered>(
+    sizes: Sizes,
+    slots: &mut [Slot],
+    records: &mut [Record<K>],
+    frames: &mut [Frame<K>],
+    keys: &mut [K],
+    values: &mut [u64],
+    seats: &mut [Seat<K>],
+    call: Call<K>,
+) -> Result<Answer, Refusal>
+    ensures { Promised (call_rule K.Ordered.before sizes (record { slots = slots.old; records = records.old; frames = frames.old; keys = keys.old; values = values.old; seats = seats.old }) call)
+        (record { memory = record { slots = slots.new; records = records.new; frames = frames.new; keys = keys.new; values = values.new; seats = seats.new }; answer = result }) }
+{
+    let mut memory = LentMemory {
+        slots,
+        records,
+        frames,
+        keys,
+        values,
+        seats,
+    };
+    memory.make_call(sizes, call)
 }

@@ -1,4 +1,5 @@
 pub mod Places
+pub mod Leading
 pub mod Unordered
 pub mod Accepted
 pub mod Splices

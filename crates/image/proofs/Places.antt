@@ -1,8 +1,8 @@
 -- where keys and values lie in bytes, and what is read there
-use Rattle.std.proofs.Common.{◌≡◌, ℕ, zero, suc, ◌+◌, ◌-◌, ◌*◌, ◌<◌, ◌≤◌, Bool, true, false, cond, eqb, ltb, List, [], ◌∷◌, length, drop, Some, None, refl, sym, ap, ◌∙◌, add-zero, add-one, mul-le-mul_right, suc-mul, zero-add, mul-add, arith, length-drop}
-use Rattle.std.proofs.lemmas.List.{length-take-le, drop_all}
+use Rattle.std.proofs.Common.{◌≡◌, ℕ, zero, suc, ◌+◌, ◌-◌, ◌*◌, ◌<◌, ◌≤◌, Bool, true, false, cond, eqb, ltb, List, [], length, drop, Some, None, refl, ap, ◌∙◌, add-zero, mul-le-mul_right, suc-mul, zero-add, mul-add, arith, length-drop}
+use Rattle.std.proofs.lemmas.List.{length-take-le}
 use Rattle.std.proofs.lemmas.Bool.{cases_Bool, cases_lt, eq-eqb, lt-ltb, le-ltb, ltb-true}
-use Rattle.std.specs.List.{cons_option, filter_map, range_with_len, slice_get}
+use Rattle.std.specs.List.{slice_get}
 use Rattle.image.specs.Image.{part, key_part, value_part, entry_at, entries_from, entries_in}
 use Rattle.image.specs.Read.{entry_parts, decoded_pair, entries_read}
 use Rattle.image.specs.declared.reader.Reader.{Reader}
@@ -85,18 +85,3 @@ module _ {K : Type 0} (key_of : List ℕ → K) (width : ℕ) (r : Reader) where
         let none : None ≡ cond (eqb r.width width) (slice_get (entries_in key_of r.width r.count r.image.now) place) None =
         rw (nth_entries_in key_of r.width r.count r.image.now place, t) (grind (arith, cases_Bool (eqb r.width width))) in
         none ∙ nth_under (eqb r.width width) (entries_in key_of r.width r.count r.image.now) place
-
-module _ {X : Type 0} where
-  found_here : (xs : List X) (i : ℕ) {found : List X} → found ≡ drop (i + 1) xs → cons_option (slice_get xs i) found ≡ drop i xs
-  found_here [] zero e = e
-  found_here [] (suc i) e = e ∙ rw add-one
-  found_here (x ∷ xs) zero e = ap (λ s. x ∷ s) e
-  found_here (x ∷ xs) (suc i) e = found_here xs i (e ∙ rw (add-one, add-one))
-
-  -- looking up each place from one on finds the items from there on
-  found_from : (xs : List X) (i n : ℕ) → length xs ≤ i + n → filter_map (slice_get xs) (range_with_len i n) ≡ drop i xs
-  found_from xs i zero h = sym (drop_all i xs (omega arith))
-  found_from xs i (suc n) h = found_here xs i (found_from xs (i + 1) n (omega arith))
-
-  pub all_found : (xs : List X) (n : ℕ) → length xs ≤ n → filter_map (slice_get xs) (range_with_len 0 n) ≡ xs
-  all_found xs n h = found_from xs 0 n (omega arith)

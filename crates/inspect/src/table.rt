@@ -11,14 +11,27 @@ use image::entry::Entry;
 use image::reader::Reader;
 use keys::byte_form::ByteForm;
 use std::alloc::{AllocError, Global};
+use std::fmt::Write;
 
 /// The entries that a reader reads, none where its keys are not as wide as the kind's.
 pub fn entries<K: ByteForm>(heap: Global, reader: &Reader) -> Result<Vec<Entry<K>>, AllocError>
     ensures { IfOk result (λ entries. entries.items ≡ entries_read K.ByteForm.WIDTH K.ByteForm.key_of reader.now) }
 {
+    // Not filter_map: it looks for each next entry in a loop of its own, which costs more than reading the entry.
     (0..reader.len())
-        .filter_map(|place| reader.decoded(place))
+        .map_while(|place| reader.decoded(place))
         .collect(heap)
+}
+
+/// A key as the kind shows it.
+// With room for two digits of each byte of a form, all that a token needs: a text that grows piece by piece is moved at each
+// growth. A long expiry key still grows once.
+fn shown<K: Shown>(heap: Global, key: &K) -> Result<String, AllocError>
+    ensures { IfOk result (λ text. string_bytes text ≡ K.Shown.shown_as key.now) }
+{
+    let mut text = String::with_capacity(heap, K::WIDTH.saturating_mul(2))?;
+    write!(text, "{key}")?;
+    Ok(text)
 }
 
 /// The width of the widest key as shown.
@@ -28,7 +41,7 @@ fn key_column<K: Shown>(heap: Global, entries: &[Entry<K>]) -> Result<usize, All
     let mut width: usize = 0;
     // A for, since making a text can fail.
     for entry in entries {
-        let key = entry.key.to_string(heap)?;
+        let key = shown(heap, &entry.key)?;
         width = width.max(key.as_str().len());
     }
     Ok(width)
@@ -44,12 +57,7 @@ impl Columns {
     ) -> Result<String, AllocError>
         ensures { IfOk result (λ line. string_bytes line ≡ entry_line self.now.place self.now.key place (K.Shown.shown_as entry.now.key) entry.now.value) }
     {
-        self.entry_line(
-            heap,
-            place,
-            entry.key.to_string(heap)?.as_str(),
-            entry.value,
-        )
+        self.entry_line(heap, place, shown(heap, &entry.key)?.as_str(), entry.value)
     }
 
     /// The lines of entries.

@@ -1,5 +1,5 @@
 -- the place of a key among keys that ascend
-use Rattle.std.proofs.Common.{◌≡◌, ℕ, zero, suc, ◌+◌, ◌<◌, ◌≤◌, Bool, true, false, cond, not, leb, List, [], ◌∷◌, map, length, get_or, take, drop, Some, None, Option, Bor, sym, refl, ap, ◌∙◌, subst, inl, inr, arith}
+use Rattle.std.proofs.Common.{◌≡◌, ℕ, zero, suc, ◌+◌, ◌-◌, ◌<◌, ◌≤◌, Bool, true, false, cond, not, leb, List, [], ◌∷◌, map, length, get_or, take, drop, Some, None, Option, Bor, sym, refl, ap, ◌∙◌, subst, inl, inr, arith}
 use Rattle.keys.proofs.Laws.{asymmetric}
 use Rattle.keys.specs.Order.{Ascending as KeysAscend, Lawful}
 use Rattle.std.proofs.ByRecursion.{All-get_or}
@@ -10,33 +10,33 @@ use Rattle.std.specs.List.{slice_get, AllByRecursion}
 use Rattle.std.specs.Bool.{IsFalse}
 use Rattle.std.specs.Option.{MatchOption}
 use Rattle.std.specs.Slice.{IsItemAt}
-use Rattle.std.specs.List.Sorted.{IsPartitionedBy, IsPartitionPoint}
 use Rattle.nodes.specs.declared.node.Item.{Item}
 use Rattle.nodes.specs.declared.items.Separators.{Separators}
 use Rattle.nodes.specs.Build.{Kept}
 use Rattle.nodes.specs.Chains.{bind}
 use Rattle.nodes.specs.Frames.{found_in_frame, holds, item_before, items_from, items_in_frame, not_after, rank, separators_among, separators_in_frame, start_of}
 use Rattle.nodes.specs.Items.{ascends, last_not_after, lookup, or_else}
+use Rattle.nodes.specs.Halving.{Parts}
 use Rattle.nodes.proofs.ItemLists.{Ascending, ascending_from, lookup_over, Over, over_at, over_weaker}
 use Rattle.nodes.proofs.Ranges.{before_among, items_keys, items_length, items_open, items_value, item_parts, last_among}
 
 module _ {K : Type 0} (before : K → K → Bool) (law : Lawful K before) (k : K) where
-  -- in keys that ascend, all that stand before k come first
-  pub parted : (ks : List K) → KeysAscend before ks → IsPartitionedBy (λ y. before y k) ks
-  parted [] s i j d h l e = absurd (omega arith)
-  parted (x ∷ xs) s zero zero d h l e = e
-  parted (x ∷ xs) s zero (suc j) d h l e = law.transitive x (get_or xs j d) k (All-get_or (λ y. before x y ≡ true) xs j d (omega arith) s.0) e
-  parted (x ∷ xs) s (suc i) zero d h l e = absurd (omega arith)
-  parted (x ∷ xs) s (suc i) (suc j) d h l e = parted xs s.1 i j d (omega arith) (omega arith) e
-
-  -- the place between them and the others is their number
-  pub rank_is : (ks : List K) (r : ℕ) → r ≤ length ks → IsPartitionPoint (λ y. before y k ≡ true) (λ y. before y k ≡ false) ks r → r ≡ rank before k ks
-  rank_is [] r h p = omega (arith, h)
-  rank_is (x ∷ xs) zero h p = let e : before x k ≡ false = p.1 0 k (omega arith) (omega arith) in rw e refl
-  rank_is (x ∷ xs) (suc r) h p =
-      let e : before x k ≡ true = p.0 0 k (omega arith) (omega arith) in
-      let rest : r ≡ rank before k xs = rank_is xs r (omega (arith, h)) ((λ i d l m. p.0 (suc i) d (omega arith) (omega arith)), (λ i d l m. p.1 (suc i) d (omega arith) (omega arith))) in
-      rw e (ap suc rest)
+  -- on keys that ascend, the two neighbours tell the number of keys before k
+  pub rank_is : (ks : List K) (r : ℕ) → KeysAscend before ks → Parts before ks k r → r ≡ rank before k ks
+  rank_is [] r s p = omega (arith, p.within)
+  rank_is (x ∷ xs) zero s p = sym (ap (λ (b : Bool). cond b (suc (rank before k xs)) 0) (p.right (omega arith)))
+  rank_is (x ∷ xs) (suc zero) s p =
+      let rest : 0 ≡ rank before k xs = rank_is xs 0 s.1 (record { within = omega arith; left = λ h. absurd (omega arith); right = λ h. p.right (omega arith) }) in
+      let e : cond (before x k) (suc (rank before k xs)) 0 ≡ suc (rank before k xs) = ap (λ (b : Bool). cond b (suc (rank before k xs)) 0) (p.left (omega arith)) in
+      omega (arith, e, rest)
+  rank_is (x ∷ xs) (suc (suc r)) s p =
+      let u : suc (suc r) - 1 ≡ suc r = omega arith in
+      let v : suc r - 1 ≡ r = omega arith in
+      let y : before (get_or xs r k) k ≡ true = rw u at (p.left (omega arith)) in
+      let l : before x (get_or xs r k) ≡ true = All-get_or (λ y. before x y ≡ true) xs r k (omega (arith, p.within)) s.0 in
+      let rest : suc r ≡ rank before k xs = rank_is xs (suc r) s.1 (record { within = omega (arith, p.within); left = λ h. rw v y; right = λ h. p.right (omega arith) }) in
+      let e : cond (before x k) (suc (rank before k xs)) 0 ≡ suc (rank before k xs) = ap (λ (b : Bool). cond b (suc (rank before k xs)) 0) (law.transitive x (get_or xs r k) k l y) in
+      omega (arith, e, rest)
 
   holds_at : (ks : List K) → rank before k ks < length ks → holds before k ks ≡ not (before k (get_or ks (rank before k ks) k))
   holds_at [] h = absurd (omega arith)

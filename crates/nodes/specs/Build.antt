@@ -23,10 +23,12 @@ module _ {K : Type 0} where
   abbrev pub arrays_of : ItemsMut K → Arrays K
   arrays_of items = record { keys = items.keys.now; values = items.values.now }
 
-  -- the same arrays are lent
+  -- the same arrays are lent, as long as they were
   pub record SameItems (a b : ItemsMut K) : Type 0 where
     pub keys : a.keys.ghost_name ≡ b.keys.ghost_name
     pub values : a.values.ghost_name ≡ b.values.ghost_name
+    pub key_count : length b.keys.now ≡ length a.keys.now
+    pub value_count : length b.values.now ≡ length a.values.now
 
 -- the arrays after a build, and its answer: whether every number lay in range
 pub record Outcome (K : Type 0) : Type 0 where

@@ -1,5 +1,5 @@
-ghost use Rattle.std.specs.Prelude.{◌≡◌, ◌+◌, ◌≤◌, length, IfSome};
-ghost use Rattle.nodes.specs.Build.{Builds, SameItems, built, carried_out, source_of};
+ghost use Rattle.std.specs.Prelude.{◌≡◌, ◌+◌, ◌≤◌, length, IfSome, is_some};
+ghost use Rattle.nodes.specs.Build.{Builds, Promised, SameItems, built, carried_out, source_of};
 ghost use Rattle.nodes.specs.Frames.{place_of};
 ghost use Rattle.nodes.specs.Merge.{merged_at, merged_root};
 
@@ -124,4 +124,22 @@ impl<K: Ordered> ItemsMut<'_, K> {
         };
         self.fill_level(merge, level, first == 0)
     }
+}
+
+/// Builds in two arrays: they hold what the rule says, wherever it gives an outcome.
+// For an owner of both, as of vectors in a struct: there the check does not find what a build by an ItemsMut made of them.
+pub fn build_on_arrays<K: Ordered>(
+    records: &[Record<K>],
+    frames: &[Frame<K>],
+    keys: &mut [K],
+    values: &mut [u64],
+    level: Level,
+    head: Head,
+    first: usize,
+    target: usize,
+) -> Option<()>
+    ensures { Promised (carried_out (built K.Ordered.before level records.now frames.now keys.old values.old head first target)) (record { arrays = record { keys = keys.new; values = values.new }; answer = is_some result }) }
+{
+    let mut items = ItemsMut { keys, values };
+    items.build(records, frames, level, head, first, target)
 }

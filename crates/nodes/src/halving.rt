@@ -2,6 +2,7 @@ ghost use Rattle.std.specs.Prelude.{◌≡◌, ◌<◌, ◌≤◌, true, length}
 ghost use Rattle.keys.specs.Order.{Ascending};
 ghost use Rattle.nodes.specs.Build.{Kept};
 ghost use Rattle.nodes.specs.Frames.{found_in_frame, holds, not_after, rank, separators_in_frame};
+ghost use Rattle.nodes.specs.Halving.{Parts};
 
 use crate::items::{Items, PLACES, Separators};
 use keys::order::Ordered;
@@ -14,6 +15,25 @@ pub struct Found {
     pub place: usize,
 }
 
+/// A place between a key that stands before k and one that does not, found by halving.
+// Not `partition_point`, whose clauses say of keys in no order only that the place lies in range, and which compares more keys
+// in a short frame.
+fn parting<K: Ordered>(keys: &[K], k: &K) -> usize
+    ensures { Parts K.Ordered.before keys.now k.now result }
+{
+    let mut low = 0;
+    let mut high = keys.len();
+    while low < high {
+        let middle = low + (high - low) / 2;
+        if keys[middle].stands_before(k) {
+            low = middle + 1;
+        } else {
+            high = middle;
+        }
+    }
+    low
+}
+
 /// Where a key stands among keys that ascend.
 pub fn locate<K: Ordered>(keys: &[K], k: &K) -> Found
     ensures within { result.place ≤ length keys.now }
@@ -21,7 +41,7 @@ pub fn locate<K: Ordered>(keys: &[K], k: &K) -> Found
     ensures place { Ascending K.Ordered.before keys.now → result.place ≡ rank K.Ordered.before k.now keys.now }
     ensures found { Ascending K.Ordered.before keys.now → result.found ≡ holds K.Ordered.before k.now keys.now }
 {
-    let place = keys.partition_point(|other| other.stands_before(k));
+    let place = parting(keys, k);
     let found = keys.get(place).is_some_and(|other| !k.stands_before(other));
     Found { found, place }
 }

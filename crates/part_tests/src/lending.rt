@@ -1,38 +1,86 @@
-//! What a caller knows of its own arrays once it has lent them for a call.
+//! What a caller knows of its own arrays once it has lent them for a call or a build.
 
-ghost use Rattle.std.specs.Prelude.{Some};
-ghost use Rattle.nodes.specs.Build.{Promised};
-ghost use Rattle.bwtree.specs.Calls.{call as call_rule};
+ghost use Rattle.std.specs.Prelude.{◌≡◌, is_some, length, nat_lt};
 
-use bwtree::answer::{Answer, Refusal};
-use bwtree::call::Call;
-use bwtree::memory::LentMemory;
+use bwtree::call::{Call, call_on_arrays};
 use bwtree::seat::Seat;
 use bwtree::sizes::Sizes;
 use keys::order::Ordered;
-use nodes::node::{Frame, Record, Slot};
+use nodes::build::build_on_arrays;
+use nodes::items::ItemsMut;
+use nodes::node::{Frame, Head, Level, Record, Slot};
 
-/// Makes a call on six arrays: they hold what the rule says, wherever it gives an outcome.
-pub fn call_on_arrays<K: Ordered>(
+/// The six arrays of an index, as vectors of their owner.
+pub struct OwnedArrays<K> {
+    pub slots: Vec<Slot>,
+    pub records: Vec<Record<K>>,
+    pub frames: Vec<Frame<K>>,
+    pub keys: Vec<K>,
+    pub values: Vec<u64>,
+    pub seats: Vec<Seat<K>>,
+}
+
+/// Makes a call on the owner's arrays, and reads a slot afterwards: no call makes an array shorter.
+pub fn slot_after<K: Ordered>(
+    arrays: &mut OwnedArrays<K>,
     sizes: Sizes,
-    slots: &mut [Slot],
-    records: &mut [Record<K>],
-    frames: &mut [Frame<K>],
-    keys: &mut [K],
-    values: &mut [u64],
-    seats: &mut [Seat<K>],
     call: Call<K>,
-) -> Result<Answer, Refusal>
-    ensures { Promised (call_rule K.Ordered.before sizes (record { slots = slots.old; records = records.old; frames = frames.old; keys = keys.old; values = values.old; seats = seats.old }) call)
-        (record { memory = record { slots = slots.new; records = records.new; frames = frames.new; keys = keys.new; values = values.new; seats = seats.new }; answer = result }) }
+    slot: usize,
+) -> Option<Slot>
+    ensures { is_some result ≡ nat_lt slot (length arrays.old.slots.items) }
 {
-    let mut memory = LentMemory {
-        slots,
-        records,
-        frames,
-        keys,
-        values,
-        seats,
-    };
-    memory.make_call(sizes, call)
+    if slot >= arrays.slots.len() {
+        return None;
+    }
+    // The answer is not asked for.
+    let _answer = call_on_arrays(
+        sizes,
+        arrays.slots.as_mut_slice(),
+        arrays.records.as_mut_slice(),
+        arrays.frames.as_mut_slice(),
+        arrays.keys.as_mut_slice(),
+        arrays.values.as_mut_slice(),
+        arrays.seats.as_mut_slice(),
+        call,
+    );
+    Some(arrays.slots[slot])
+}
+
+/// Builds a leaf's frame in the owner's arrays, and reads a key afterwards: no build makes an array shorter.
+pub fn key_after<K: Ordered>(
+    arrays: &mut OwnedArrays<K>,
+    head: Head,
+    target: usize,
+    place: usize,
+) -> Option<K>
+    ensures { is_some result ≡ nat_lt place (length arrays.old.keys.items) }
+{
+    if place >= arrays.keys.len() {
+        return None;
+    }
+    build_on_arrays(
+        arrays.records.as_slice(),
+        arrays.frames.as_slice(),
+        arrays.keys.as_mut_slice(),
+        arrays.values.as_mut_slice(),
+        Level::Leaf,
+        head,
+        0,
+        target,
+    );
+    Some(arrays.keys[place])
+}
+
+/// Builds a leaf's frame: both arrays are as long as they were, whatever the build answers.
+pub fn build_keeps_lengths<K: Ordered>(
+    items: &mut ItemsMut<'_, K>,
+    records: &[Record<K>],
+    frames: &[Frame<K>],
+    head: Head,
+    target: usize,
+) -> Option<()>
+    ensures keys { length items.new.keys.now ≡ length items.old.keys.now }
+    ensures values { length items.new.values.now ≡ length items.old.values.now }
+{
+    items.build(records, frames, Level::Leaf, head, 0, target)
 }

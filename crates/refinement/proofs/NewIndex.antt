@@ -7,7 +7,7 @@ use Rattle.refinement.specs.Beginning.{NewIndexFollows}
 use Rattle.refinement.proofs.Loaded.{loaded_index_follows}
 
 -- lawful sizes have room for no entries
-room_for_none : (z : Sizes) → lawful_sizes z ≡ true → has_room z 0 ≡ true
+pub room_for_none : (z : Sizes) → lawful_sizes z ≡ true → has_room z 0 ≡ true
 room_for_none z e = grind arith
 
 pub new_index_follows : {K : Type 0} (before : K → K → Bool) → NewIndexFollows before

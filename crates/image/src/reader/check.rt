@@ -66,7 +66,8 @@ impl<'a> Reader<'a> {
     fn unordered<K: ByteForm>(&self) -> Option<usize>
         ensures { result ≡ first_unordered K.Ordered.before (keys_of (entries_read K.ByteForm.WIDTH K.ByteForm.key_of self.now)) }
     {
-        let entries = (0..self.count).filter_map(|place| self.decoded::<K>(place));
+        // Not filter_map: it looks for each next entry in a loop of its own, which costs more than reading the entry.
+        let entries = (0..self.count).map_while(|place| self.decoded::<K>(place));
         first_unordered(entries.map(|entry| entry.key))
     }
 }

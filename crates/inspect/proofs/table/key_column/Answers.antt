@@ -2,7 +2,6 @@ use Rattle.std.proofs.Common.{◌+◌, length, drop, sym, ap, ◌∙◌, arith}
 use Rattle.std.proofs.lemmas.List.{drop_all}
 use Rattle.inspect.specs.Table.{larger_of, widest_after}
 use Rattle.inspect.proofs.Entries.{drop_item, max_larger}
-use Rattle.inspect.proofs.Texts.{displayed_text}
 use Rattle.inspect.proofs.table.key_column.Goals as goal
 
 pub loop-entry-preserved : goal.loop-entry-preserved
@@ -11,7 +10,7 @@ loop-entry-preserved g c =
     let rest = drop (c.loop-entry.entry-index + 1) c.args.entries.now in
     ap (λ w. widest_after g.K.Shown.shown_as w rest)
     (c.max-width.ensures ∙ max_larger c.loop-entry.width _
-    ∙ ap (λ s. larger_of c.loop-entry.width (length s)) (c.as_str.ensures.value ∙ displayed_text (g.met.K.Shown.displayed _) c.in_ok-key.ensures.ok))
+    ∙ ap (λ s. larger_of c.loop-entry.width (length s)) (c.as_str.ensures.value ∙ c.in_ok-key.ensures))
     ∙ ap (widest_after g.K.Shown.shown_as c.loop-entry.width) (sym item) ∙ c.loop-entry.invariant
 
 pub returns : goal.returns

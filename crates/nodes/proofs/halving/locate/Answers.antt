@@ -1,7 +1,6 @@
 use Rattle.std.proofs.Common.{rules}
-use Rattle.std.proofs.lemmas.List.Sorted.{IsPartitionPoint-from_clause}
 use Rattle.keys.specs.Order.{Lawful}
-use Rattle.nodes.proofs.Ranks.{found_at, parted, rank_is}
+use Rattle.nodes.proofs.Ranks.{found_at, rank_is}
 use Rattle.nodes.proofs.halving.locate.Given as given
 use Rattle.nodes.proofs.halving.locate.Goals as goal
 
@@ -10,9 +9,7 @@ lawful g = record { irreflexive = g.met.K.Ordered.irreflexive; transitive = g.me
 
 pub returns-clause-place : goal.returns-clause-place
 returns-clause-place g c s =
-    rank_is g.K.Ordered.before (lawful g) c.args.k.now c.args.keys.now _ c.partition_point-place.ensures.bound
-    (IsPartitionPoint-from_clause (λ y. g.K.Ordered.before y c.args.k.now) c.args.keys.now _ c.partition_point-place.ensures.partitioned
-    (parted g.K.Ordered.before (lawful g) c.args.k.now c.args.keys.now s) (λ a r f k. search rules))
+    rank_is g.K.Ordered.before (lawful g) c.args.k.now c.args.keys.now c.parting-place.result s c.parting-place.ensures
 
 pub returns-clause-found : goal.returns-clause-found
 returns-clause-found g c s =

@@ -1,10 +1,11 @@
 use Rattle.std.proofs.Common.{subst, arith, rules}
 use Rattle.std.specs.List.{slice_get}
 use Rattle.std.proofs.lemmas.Iterator.{YieldsList, YieldsList-from_map, YieldsList-from_range}
-use Rattle.std.proofs.lemmas.Iterator.Consumers.{YieldsList-at, YieldsList-from_filter_map}
+use Rattle.std.proofs.lemmas.Iterator.Consumers.{YieldsList-at}
 use Rattle.image.specs.Image.{keys_of}
 use Rattle.image.specs.Read.{entries_read}
-use Rattle.image.proofs.Places.{all_found, length-held_le}
+use Rattle.image.proofs.Leading.{YieldsList-from_map_while, all_found}
+use Rattle.image.proofs.Places.{length-held_le}
 use Rattle.image.proofs.reader.Reader.unordered.Goals as goal
 
 pub returns : goal.returns
@@ -15,6 +16,6 @@ returns g c =
     (YieldsList-from_map _ (λ e. e.key)
     (subst (YieldsList _ _ _) found
     (YieldsList-at c.map.ensures.source
-    (YieldsList-from_filter_map {s = c.filter_map-entries.result} _ (slice_get held) (YieldsList-from_range 0 c.args.self.now.count c.args.self.now.count (cc) (omega arith)) c.filter_map-entries.ensures.closure
+    (YieldsList-from_map_while {s = c.map_while-entries.result} _ (slice_get held) (YieldsList-from_range 0 c.args.self.now.count c.args.self.now.count (cc) (omega arith)) c.map_while-entries.ensures.closure
     (λ x r q k. search rules))))
     c.map.ensures.closure (λ x r q k. search rules))
